@@ -1,0 +1,7 @@
+-- The laws that several crates share.
+pub mod Pick
+pub mod Tests
+pub mod Below
+pub mod Words
+pub mod Lists
+pub mod Results

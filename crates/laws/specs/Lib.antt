@@ -1,0 +1,3 @@
+-- The definitions that several crates share.
+pub mod Pick
+pub mod Result

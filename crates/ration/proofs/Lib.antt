@@ -1,0 +1,2 @@
+-- The laws of the ration.
+pub mod Laws

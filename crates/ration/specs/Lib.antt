@@ -1,0 +1,2 @@
+-- The definitions of the ration.
+pub mod Ration

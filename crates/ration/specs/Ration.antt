@@ -1,0 +1,49 @@
+-- A ration is finite, 0 to 2,147,483,647, or endless.
+use Prim.Native.Nat.{ℕ, _+_, _*_, _-_}
+use mathlib.Core.Bool.{Bool, true, false}
+use lib.Dec.{eqb, leb}
+use Rattle.laws.specs.Pick.{pick}
+use Rattle.ration.specs.declared.Ration.{Ration}
+use Rattle.ration.specs.declared.Ration.the-variants.{Finite, Endless}
+use Rattle.ration.specs.declared.Spent.{Spent}
+use Rattle.ration.specs.declared.Spent.the-variants.{Left, NotEnough}
+use Rattle.ration.specs.declared.Grown.{Grown}
+use Rattle.ration.specs.declared.Grown.the-variants.{To, PastLargest}
+
+-- 0x7FFFFFFF
+abbrev pub largest : ℕ
+largest = 2_147_483_647
+
+-- the header number times 256; 0 means endless
+unfoldable pub fromHeader : ℕ → Ration
+fromHeader number = pick (eqb number 0) Endless (Finite (number * 256))
+
+abbrev pub inRange : Ration → Bool
+inRange (Finite left) = leb left largest
+inRange Endless = true
+
+-- a length is allowed that is not above the ration
+abbrev pub allows : Ration → ℕ → Bool
+allows (Finite left) n = leb n left
+allows Endless n = true
+
+-- n bytes more; an endless ration absorbs them
+abbrev pub plus : Ration → ℕ → Ration
+plus (Finite left) n = Finite (left + n)
+plus Endless n = Endless
+
+-- n bytes less, where they are allowed; an endless ration absorbs them
+abbrev pub minus : Ration → ℕ → Ration
+minus (Finite left) n = Finite (left - n)
+minus Endless n = Endless
+
+unfoldable pub spend : Ration → ℕ → Spent
+spend r n = pick (allows r n) (Left (minus r n)) NotEnough
+
+unfoldable pub grow : Ration → ℕ → Grown
+grow r n = pick (inRange (plus r n)) (To (plus r n)) PastLargest
+
+-- a grant is refused where the ration is endless, or the sum is above the largest
+abbrev pub grantable : Ration → ℕ → Bool
+grantable (Finite left) n = inRange (Finite (left + n))
+grantable Endless n = false

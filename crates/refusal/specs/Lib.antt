@@ -1,0 +1,2 @@
+-- The numbers of refusals and violations.
+pub mod Number
