@@ -1,11 +1,29 @@
--- Laws on lists beyond the library's: the first elements by name, and copies into the front of a list.
+-- Laws on lists beyond the library's: bytes, the elements of a part by name, and copies over the front of a list.
 use mathlib.Core.Path.{_≡_, refl, ap, _∙_}
 use mathlib.Core.List.{List, [], _∷_, _++_}
-use Prim.Native.Nat.{ℕ, _+_, _≤_, _<_}
+use Prim.Native.Nat.{ℕ, zero, suc, _+_, _≤_, _<_}
 use native.Mathlib.Omega.{arith}
 use lib.ListN.{length, getD, take, drop}
-use lib.Seq.{drop-append-add, drop-drop}
+use lib.Seq.{drop-cons, take-append-seam, drop-append-add, drop-drop}
 
 -- each element is a byte
 abbrev pub Bytes : List ℕ → Type 0
 Bytes s = (i : ℕ) → getD s i 0 < 256
+
+-- the k elements from index i on
+abbrev pub elements : ℕ → ℕ → List ℕ → List ℕ
+elements zero i s = []
+elements (suc k) i s = getD s i 0 ∷ elements k (suc i) s
+
+pub take-elements : (k i : ℕ) (s : List ℕ) → i + k ≤ length s → take k (drop i s) ≡ elements k i s
+take-elements zero i s h = refl
+take-elements (suc k) i s h =
+    ap (take (suc k)) (drop-cons s i 0 (omega arith))
+    ∙ ap (λ (l : List ℕ). getD s i 0 ∷ l) (take-elements k (suc i) s (omega arith))
+
+-- a list copied over the front of a room, and another one behind it
+pub two-copies : (first second room : List ℕ) {mid last : List ℕ} → mid ≡ first ++ drop (length first) room
+    → last ≡ take (length first) mid ++ second ++ drop (length first + length second) mid
+    → last ≡ first ++ second ++ drop (length first + length second) room
+two-copies first second room p q =
+    rw (q, p, take-append-seam, drop-append-add) (ap (λ (l : List ℕ). first ++ second ++ l) (drop-drop (length second) (length first) room))

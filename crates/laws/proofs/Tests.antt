@@ -29,3 +29,6 @@ T-true false t = absurd t
 -- no test is both true and false
 pub true-false : {b : Bool} → b ≡ true → b ≡ false → ⊥
 true-false p q = true≢false (sym p ∙ q)
+
+pub and-same : {a b c d : Bool} → a ≡ b → c ≡ d → (a && c) ≡ (b && d)
+and-same p q = rw (p, q)

@@ -1,17 +1,15 @@
 -- What a ration is after it is spent or has grown, as sums, and that it stays in range; from the definitions.
-use mathlib.Core.Path.{_≡_, refl, sym, ap, _∙_}
+use mathlib.Core.Path.{_≡_, refl, ap}
 use mathlib.Core.Bool.{Bool, true, false}
-use Prim.Native.Nat.{ℕ, _+_, _-_, _*_, _≤_}
+use Prim.Native.Nat.{ℕ, _-_, _*_, _≤_}
 use native.Mathlib.Omega.{arith}
-use lib.Dec.{eqb, leb}
-use borrow.Author.Tests.{leb-true, le-leb, eqb-false}
+use lib.Dec.{eqb}
+use borrow.Author.Tests.{leb-true, le-leb}
 use Rattle.laws.specs.Pick.{pick}
 use Rattle.laws.proofs.Pick.{yes, no}
 use Rattle.ration.specs.declared.Ration.{Ration}
 use Rattle.ration.specs.declared.Ration.the-variants.{Finite, Endless}
-use Rattle.ration.specs.declared.Spent.{Spent}
 use Rattle.ration.specs.declared.Spent.the-variants.{Left, NotEnough}
-use Rattle.ration.specs.declared.Grown.{Grown}
 use Rattle.ration.specs.declared.Grown.the-variants.{To, PastLargest}
 use Rattle.ration.specs.Ration.{largest, fromHeader, inRange, allows, plus, minus, spend, grow}
 

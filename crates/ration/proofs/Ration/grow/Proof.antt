@@ -1,6 +1,6 @@
 use Rattle.ration.specs.Ration.{grow}
 use Rattle.laws.specs.Pick.{pick}
-use borrow.Author.Tests.{le-leb, lt-leb, eq-eqb, ne-eqb}
+use borrow.Author.Tests.{le-leb, lt-leb}
 use borrow.Author.Needs.{needs}
 use Rattle.ration.proofs.Ration.grow.Statement.{statement}
 use Rattle.ration.proofs.Ration.grow.Tie as tie

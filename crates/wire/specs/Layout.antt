@@ -1,0 +1,116 @@
+-- The published layout tables: which bits of a header are reserved, and which hold each item.
+use Prim.Native.Nat.{ℕ}
+use mathlib.Core.List.{List, [], _∷_}
+use mathlib.Core.Bool.{Bool, true, _&&_, cond}
+use lib.ListN.{getD}
+use lib.Dec.{eqb}
+use Rattle.wire.specs.Pattern.{Bit, O, I, x, -, bits, fits, withBits}
+use Rattle.wire.specs.declared.Kind.{Kind}
+use Rattle.wire.specs.declared.Kind.the-variants as kind
+use Rattle.wire.specs.declared.Message.{Message}
+use Rattle.wire.specs.declared.Message.the-variants.{NoOperation, Shutdown, Ping, PingAck, Error, IncrementRation, Abort, Close, Acknowledgment, Data}
+
+-- what a row describes: an item under its published name, or bits that are fixed
+pub data Item : Type 0 where
+  identifier reserved length cookie shift increment sessionID partial opens close eof ackRequired : Item
+  magic version initialRation : Item
+
+abbrev number : Item → ℕ
+number identifier = 0
+number reserved = 1
+number length = 2
+number cookie = 3
+number shift = 4
+number increment = 5
+number sessionID = 6
+number partial = 7
+number opens = 8
+number close = 9
+number eof = 10
+number ackRequired = 11
+number magic = 12
+number version = 13
+number initialRation = 14
+
+pub record Row : Type 0 where
+  pub offset : ℕ
+  pub pattern : List Bit
+  pub item : Item
+
+abbrev pub row : ℕ → List Bit → Item → Row
+row at p i = record { offset = at; pattern = p; item = i }
+
+-- bytes 2 and 3, one item
+abbrev wide : List Bit → Item → List Row
+wide p i = row 2 p i ∷ row 3 p i ∷ []
+
+-- a session identifier stands in a byte with its top bit reserved
+abbrev session : List Row → List Row
+session rows = row 1 (bits O - - - - - - -) reserved ∷ row 1 (bits - x x x x x x x) sessionID ∷ rows
+
+-- the layout of a message that pertains to the connection as a whole
+abbrev whole : List Bit → Item → List Row
+whole first i = row 0 first identifier ∷ row 1 (bits O O O O O O O O) reserved ∷ wide (bits x x x x x x x x) i
+
+abbrev pub layout : Kind → List Row
+layout kind.NoOperation = whole (bits O O O O O O O O) length
+layout kind.Shutdown = whole (bits O O O O O O I O) length
+layout kind.Ping = whole (bits O O O O O I O O) cookie
+layout kind.PingAck = whole (bits O O O O O I I O) cookie
+layout kind.Error = whole (bits O O O O I O O O) length
+layout kind.IncrementRation =
+    row 0 (bits O O O I - - - -) identifier
+    ∷ row 0 (bits - - - - x x x -) shift
+    ∷ row 0 (bits - - - - - - - O) reserved
+    ∷ session (wide (bits x x x x x x x x) increment)
+layout kind.Abort =
+    row 0 (bits O O I O O O - -) identifier
+    ∷ row 0 (bits - - - - - - x -) partial
+    ∷ row 0 (bits - - - - - - - O) reserved
+    ∷ session (wide (bits x x x x x x x x) length)
+layout kind.Close = row 0 (bits O O I I O O O O) identifier ∷ session (wide (bits O O O O O O O O) reserved)
+layout kind.Acknowledgment = row 0 (bits O I O O O O O O) identifier ∷ session (wide (bits O O O O O O O O) reserved)
+layout kind.Data =
+    row 0 (bits I O O - - - - -) identifier
+    ∷ row 0 (bits - - - x - - - -) opens
+    ∷ row 0 (bits - - - - x - - -) close
+    ∷ row 0 (bits - - - - - x - -) eof
+    ∷ row 0 (bits - - - - - - x -) ackRequired
+    ∷ row 0 (bits - - - - - - - O) reserved
+    ∷ session (wide (bits x x x x x x x x) length)
+
+-- each bit that a row fixes is as the row says
+abbrev pub fixed : List Row → List ℕ → Bool
+fixed [] header = true
+fixed (r ∷ rs) header = fits (r .pattern) 128 (getD header (r .offset) 0) && fixed rs header
+
+-- the binary digits of n, and behind them the bits of each row that describes the item
+abbrev pub digits : Item → List Row → List ℕ → ℕ → ℕ
+digits i [] header n = n
+digits i (r ∷ rs) header n =
+    digits i rs header (cond (eqb (number i) (number (r .item))) (withBits (r .pattern) 128 (getD header (r .offset) 0) n) n)
+
+-- the number that an item of a message holds
+abbrev pub item : Kind → Item → List ℕ → ℕ
+item k i header = digits i (layout k) header 0
+
+-- a flag is set where its bit is 1
+abbrev pub flag : Kind → Item → List ℕ → Bool
+flag k i header = eqb (item k i header) 1
+
+-- the message of a type, with every item that its layout has
+abbrev pub message : Kind → List ℕ → Message
+message kind.NoOperation h = NoOperation (item kind.NoOperation length h)
+message kind.Shutdown h = Shutdown (item kind.Shutdown length h)
+message kind.Ping h = Ping (item kind.Ping cookie h)
+message kind.PingAck h = PingAck (item kind.PingAck cookie h)
+message kind.Error h = Error (item kind.Error length h)
+message kind.IncrementRation h =
+    IncrementRation (item kind.IncrementRation shift h) (item kind.IncrementRation sessionID h)
+    (item kind.IncrementRation increment h)
+message kind.Abort h = Abort (flag kind.Abort partial h) (item kind.Abort sessionID h) (item kind.Abort length h)
+message kind.Close h = Close (item kind.Close sessionID h)
+message kind.Acknowledgment h = Acknowledgment (item kind.Acknowledgment sessionID h)
+message kind.Data h =
+    Data (flag kind.Data opens h) (flag kind.Data close h) (flag kind.Data eof h) (flag kind.Data ackRequired h)
+    (item kind.Data sessionID h) (item kind.Data length h)
