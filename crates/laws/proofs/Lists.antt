@@ -10,6 +10,10 @@ use lib.Seq.{drop-cons, take-append-seam, drop-append-add, drop-drop}
 abbrev pub Bytes : List ℕ → Type 0
 Bytes s = (i : ℕ) → getD s i 0 < 256
 
+pub bytes-cons : (a : ℕ) (s : List ℕ) → a < 256 → Bytes s → Bytes (a ∷ s)
+bytes-cons a s h bs zero = h
+bytes-cons a s h bs (suc i) = bs i
+
 -- the k elements from index i on
 abbrev pub elements : ℕ → ℕ → List ℕ → List ℕ
 elements zero i s = []

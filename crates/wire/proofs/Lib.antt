@@ -4,3 +4,7 @@ pub mod Tables
 pub mod Flags
 pub mod Reading
 pub mod Writing
+pub mod Inverse
+pub mod Laws
+pub mod ConnectionLaws
+pub mod Increments

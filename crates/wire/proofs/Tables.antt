@@ -163,7 +163,7 @@ increment-same p q r = cc
 abort-same : {p p′ : Bool} {i i′ n n′ : ℕ} → p ≡ p′ → i ≡ i′ → n ≡ n′ → Abort p i n ≡ Abort p′ i′ n′
 abort-same p q r = cc
 
-data-same : {o o′ c c′ e e′ k k′ : Bool} {i i′ n n′ : ℕ} → o ≡ o′ → c ≡ c′ → e ≡ e′ → k ≡ k′ → i ≡ i′ → n ≡ n′ → Data o c e k i n ≡ Data o′ c′ e′ k′ i′ n′
+pub data-same : {o o′ c c′ e e′ k k′ : Bool} {i i′ n n′ : ℕ} → o ≡ o′ → c ≡ c′ → e ≡ e′ → k ≡ k′ → i ≡ i′ → n ≡ n′ → Data o c e k i n ≡ Data o′ c′ e′ k′ i′ n′
 data-same p q r s t u = cc
 
 module _ (a b c d : ℕ) (ha : a < 256) (hb : b < 256) (hc : c < 256) (hd : d < 256) where

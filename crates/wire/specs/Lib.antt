@@ -4,4 +4,3 @@ pub mod FirstByte
 pub mod Layout
 pub mod Message
 pub mod Connection
-pub mod Answer

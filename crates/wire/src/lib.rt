@@ -1,20 +1,12 @@
-// The messages of the multiplexing protocol, their reader and their writer.
-mod headers;
-mod kinds;
-mod reader;
+// The messages of the multiplexing protocol, and what holds of a message whatever reads or writes it.
 mod rules;
-mod writer;
 
-pub use headers::parse_connection_header;
-pub use headers::read_connection_header;
-pub use headers::write_connection_header;
-pub use reader::parse_header;
-pub use reader::read_message;
-use refusal::Refusal;
-use refusal::Violation;
 pub use rules::body_length;
 pub use rules::effective_increment;
-pub use writer::write_message;
+pub use rules::flags_allowed;
+pub use rules::is_client;
+pub use rules::is_server;
+pub use rules::may_send;
 
 // An end of the connection.
 pub enum Role {
@@ -83,36 +75,4 @@ pub enum Message {
         session: u8,
         length: u16,
     },
-}
-
-// What the four header bytes of a message say.
-pub enum Parsed {
-    Message(Message),
-    Violated(Violation),
-}
-
-// What message stands first in an input.
-pub enum Read {
-    Message(Message),
-    Incomplete,
-    Violated(Violation),
-}
-
-// What the eight bytes of a connection header say.
-pub enum ParsedHeader {
-    Number(u16),
-    Violated(Violation),
-}
-
-// What connection header stands first in an input.
-pub enum ReadHeader {
-    Number(u16),
-    Incomplete,
-    Violated(Violation),
-}
-
-// What a writer did: the number of bytes it wrote, or why it wrote none.
-pub enum Written {
-    Wrote(usize),
-    Refused(Refusal),
 }

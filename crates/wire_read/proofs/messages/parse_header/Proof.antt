@@ -1,0 +1,26 @@
+-- `parse_header` meets its contract: one law for each way through the checks.
+use mathlib.Core.Path.{sym, _∙_}
+use Rattle.laws.proofs.Pick.{via}
+use Rattle.wire.proofs.Reading.{header-clear, header-reserved, header-unknown}
+use borrow.Author.Needs.{needs}
+use Rattle.wire_read.proofs.messages.parse_header.Statement.{statement}
+use Rattle.wire_read.proofs.messages.parse_header.Tie as tie
+
+reserved-clear-requires : tie.Need-reserved-clear-requires
+reserved-clear-requires c κs = sym (c .before .before .before .kind-of .ensures) ∙ c .before .named .given .1
+
+returns : tie.Need-returns
+returns c = header-clear _ _ _ _ _ (sym (c .before .before .before .before .before .before .before .kind-of .ensures) ∙ c .before .before .before .before .before .named .given .1) (via (c .before .before .before .reserved-clear .ensures) (c .before .before .if1 .taken)) (c .before .message-of .ensures) (c .if-allowed .ensures)
+
+returns-2 : tie.Need-returns-2
+returns-2 c = header-reserved _ _ _ _ _ (sym (c .before .before .before .before .before .kind-of .ensures) ∙ c .before .before .before .named .given .1) (via (c .before .reserved-clear .ensures) (c .if1 .left))
+
+returns-3 : tie.Need-returns-3
+returns-3 c = header-unknown _ _ _ _ _ (sym (c .before .before .kind-of .ensures) ∙ c .enum-told .given .1)
+
+pub parse-header-spec : {M : Type 1} → statement M
+parse-header-spec =
+    tie.close
+    (tie.spec
+    (λ c κs. search needs) (λ c. search needs) reserved-clear-requires (λ c κs. search needs) (λ c κs. search needs)
+    returns (λ c. search needs) returns-2 returns-3)

@@ -1,0 +1,2 @@
+-- The definitions of the reader's answers.
+pub mod Answer

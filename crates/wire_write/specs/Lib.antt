@@ -1,0 +1,2 @@
+-- The definitions of the writer's answers.
+pub mod Answer

@@ -1,0 +1,158 @@
+// The bytes of a message, and where they are written.
+use crate::Written;
+use crate::copy::copy_in;
+use refusal::Refusal;
+use wire::Kind;
+use wire::Message;
+use wire::Role;
+use wire::body_length;
+use wire::flags_allowed;
+use wire::may_send;
+ghost use mathlib.Core.Path.{_≡_};
+ghost use Prim.Native.Nat.{_+_, _≤_, _<_};
+ghost use mathlib.Core.List.{_++_};
+ghost use lib.ListN.{length, take, drop};
+ghost use Rattle.wire.specs.Message.{weight as Message·weight, firstByte, secondByte, numberOf, shiftOf, kindOfMessage, writable, writeMessage};
+ghost use Rattle.wire_write.specs.Answer.{writtenAs};
+
+// The weight of a flag's bit, or 0.
+fn weight(w: u8, set: bool) -> u8
+    ensures { λ r. ⌜ (r ≡ Message·weight w set) × (r ≤ w) ⌝ }
+{
+    if set {
+        return w;
+    }
+    0
+}
+
+fn first_byte(m: Message) -> u8
+    requires { ⌜ shiftOf m < 8 ⌝ }
+    ensures { λ r. ⌜ r ≡ firstByte m ⌝ }
+{
+    match m {
+        Message::NoOperation { .. } => 0x00,
+        Message::Shutdown { .. } => 0x02,
+        Message::Ping { .. } => 0x04,
+        Message::PingAck { .. } => 0x06,
+        Message::Error { .. } => 0x08,
+        Message::IncrementRation { shift, .. } => 0x10 + shift * 2,
+        Message::Abort { partial, .. } => 0x20 + weight(2, partial),
+        Message::Close { .. } => 0x30,
+        Message::Acknowledgment { .. } => 0x40,
+        Message::Data {
+            open,
+            close,
+            eof,
+            ack_required,
+            ..
+        } => {
+            0x80 + weight(16, open) + weight(8, close) + weight(4, eof) + weight(2, ack_required)
+        }
+    }
+}
+
+fn second_byte(m: Message) -> u8
+    ensures { λ r. ⌜ r ≡ secondByte m ⌝ }
+{
+    match m {
+        Message::NoOperation { .. } => 0,
+        Message::Shutdown { .. } => 0,
+        Message::Ping { .. } => 0,
+        Message::PingAck { .. } => 0,
+        Message::Error { .. } => 0,
+        Message::IncrementRation { session, .. } => session,
+        Message::Abort { session, .. } => session,
+        Message::Close { session } => session,
+        Message::Acknowledgment { session } => session,
+        Message::Data { session, .. } => session,
+    }
+}
+
+// The number in bytes 2 and 3.
+fn number_of(m: Message) -> u16
+    ensures { λ r. ⌜ r ≡ numberOf m ⌝ }
+{
+    match m {
+        Message::NoOperation { length } => length,
+        Message::Shutdown { length } => length,
+        Message::Ping { cookie } => cookie,
+        Message::PingAck { cookie } => cookie,
+        Message::Error { length } => length,
+        Message::IncrementRation { increment, .. } => increment,
+        Message::Abort { length, .. } => length,
+        Message::Close { .. } => 0,
+        Message::Acknowledgment { .. } => 0,
+        Message::Data { length, .. } => length,
+    }
+}
+
+// The shift of an IncrementRation, and 0 of any other message.
+fn shift_of(m: Message) -> u8
+    ensures { λ r. ⌜ r ≡ shiftOf m ⌝ }
+{
+    match m {
+        Message::NoOperation { .. } => 0,
+        Message::Shutdown { .. } => 0,
+        Message::Ping { .. } => 0,
+        Message::PingAck { .. } => 0,
+        Message::Error { .. } => 0,
+        Message::IncrementRation { shift, .. } => shift,
+        Message::Abort { .. } => 0,
+        Message::Close { .. } => 0,
+        Message::Acknowledgment { .. } => 0,
+        Message::Data { .. } => 0,
+    }
+}
+
+// The type of a message.
+fn kind_of_message(m: Message) -> Kind
+    ensures { λ r. ⌜ r ≡ kindOfMessage m ⌝ }
+{
+    match m {
+        Message::NoOperation { .. } => Kind::NoOperation,
+        Message::Shutdown { .. } => Kind::Shutdown,
+        Message::Ping { .. } => Kind::Ping,
+        Message::PingAck { .. } => Kind::PingAck,
+        Message::Error { .. } => Kind::Error,
+        Message::IncrementRation { .. } => Kind::IncrementRation,
+        Message::Abort { .. } => Kind::Abort,
+        Message::Close { .. } => Kind::Close,
+        Message::Acknowledgment { .. } => Kind::Acknowledgment,
+        Message::Data { .. } => Kind::Data,
+    }
+}
+
+// Whether the reader gives the message back, with so many bytes after its header.
+fn may_write(from: Role, m: Message, len: usize) -> bool
+    ensures { λ r. ⌜ r ≡ writable from m len ⌝ }
+{
+    let shift = shift_of(m) < 8;
+    let session = second_byte(m) < 128;
+    let sender = may_send(from, kind_of_message(m));
+    let flags = flags_allowed(from, m);
+    let body = body_length(m) as usize == len;
+    shift & session & sender & flags & body
+}
+
+// Writes a message of a sender's and the bytes that follow it.
+pub fn write_message(from: Role, m: Message, body: &[u8], room: &mut [u8]) -> Written
+    ensures { λ r. ⌜ (writtenAs r, now (room .exit)) ≡ writeMessage from m (now (body .entry)) (now (room .entry)) ⌝ }
+{
+    if may_write(from, m, body.len()) {
+        let need = 4 + body.len();
+        if need <= room.len() {
+            let n = number_of(m);
+            let header = [
+                first_byte(m),
+                second_byte(m),
+                (n / 256) as u8,
+                (n % 256) as u8,
+            ];
+            copy_in(&header, room, 0);
+            copy_in(body, room, 4);
+            return Written::Wrote(need);
+        }
+        return Written::Refused(Refusal::WrongRoom);
+    }
+    Written::Refused(Refusal::IllFormed)
+}
