@@ -1,3 +1,4 @@
+-- `allows` meets its contract: each arm is a case of `allows`.
 use borrow.Author.Needs.{needs}
 use Rattle.ration.proofs.Ration.allows.Statement.{statement}
 use Rattle.ration.proofs.Ration.allows.Tie as tie

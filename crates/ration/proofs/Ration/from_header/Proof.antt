@@ -1,3 +1,4 @@
+-- `from_header` meets its contract: the test for 0 picks the case.
 use Rattle.laws.proofs.Pick.{yes, no}
 use Rattle.ration.specs.Ration.{fromHeader}
 use mathlib.Core.Path.{sym}

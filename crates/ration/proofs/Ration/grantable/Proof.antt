@@ -1,3 +1,4 @@
+-- `grantable` meets its contract: each arm is a case of `grantable`.
 use borrow.Author.Needs.{needs}
 use Rattle.ration.proofs.Ration.grantable.Statement.{statement}
 use Rattle.ration.proofs.Ration.grantable.Tie as tie

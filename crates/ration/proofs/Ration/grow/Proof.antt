@@ -1,3 +1,4 @@
+-- `grow` meets its contract: the test of the sum picks the case.
 use Rattle.ration.specs.Ration.{grow}
 use Rattle.laws.specs.Pick.{pick}
 use borrow.Author.Tests.{le-leb, lt-leb}

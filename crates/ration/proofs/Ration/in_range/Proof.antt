@@ -1,3 +1,4 @@
+-- `in_range` meets its contract: each arm is a case of `inRange`.
 use borrow.Author.Needs.{needs}
 use Rattle.ration.proofs.Ration.in_range.Statement.{statement}
 use Rattle.ration.proofs.Ration.in_range.Tie as tie

@@ -1,3 +1,4 @@
+-- `spend` meets its contract: the test of the length picks the case.
 use Rattle.ration.specs.Ration.{spend}
 use Rattle.laws.specs.Pick.{pick}
 use borrow.Author.Tests.{le-leb, lt-leb}

@@ -1,3 +1,4 @@
+-- `effective_increment` meets its contract, by the factor of its shift.
 use Prim.Native.Nat.{ℕ, _*_, _≤_}
 use native.Mathlib.Omega.{arith}
 use lib.Dec.{lit<}

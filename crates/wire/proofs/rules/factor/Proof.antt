@@ -1,3 +1,4 @@
+-- `factor` meets its contract: the power is computed for each value of three bits.
 use Prim.Native.Nat.{ℕ, _≤_, _<_}
 -- `factor` meets its contract: the power is computed for each value of three bits.
 use mathlib.Core.Path.{_≡_}

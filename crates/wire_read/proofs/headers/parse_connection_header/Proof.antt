@@ -1,3 +1,4 @@
+-- `parse_connection_header` meets its contract, by the laws of the eight bytes.
 use lib.ListN.{getD}
 -- `parse_connection_header` meets its contract, by the laws of the eight bytes.
 use Rattle.laws.proofs.Pick.{via}

@@ -1,4 +1,4 @@
--- `wire::copy_in` meets its contract. The loop's invariant: `dst` is what it was with the first j bytes of `src` copied in from `at`.
+-- `copy_in` meets its contract. The loop's invariant: `dst` is what it was with the first j bytes of `src` copied in from `at`.
 
 use mathlib.Core.Path.{_≡_, refl, ap, _∙_}
 use mathlib.Core.List.{List, _++_}

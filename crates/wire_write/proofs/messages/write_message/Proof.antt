@@ -14,12 +14,19 @@ first-byte-requires c κs = writable-has _ _ _ (via (c .before .before .before .
 
 returns : tie.Need-returns
 returns c =
-    let start = c .before .before .before .before .before .before .before .before .before .before .before .before .before .before in
+    let second = c .before .before .before .before .before .before .before .before .before in
+    let first = second .before in
+    let number = first .before in
+    let roomy = number .before in
+    let may = roomy .before in
+    let start = may .before in
     let a = start .before .before .before .args in
-    let n = c .before .before .before .before .before .before .before .before .before .before .before .number-of .result in
-    write-ok (a .from) (a .m) (now (a .body)) (now (a .room)) (via (start .may-write .ensures) (c .before .before .before .before .before .before .before .before .before .before .before .before .before .if1 .taken))
-    (c .before .before .before .before .before .before .before .before .before .before .before .before .if2 .taken) (c .before .before .before .before .before .before .before .before .before .before .first-byte .ensures) (c .before .before .before .before .before .before .before .before .before .second-byte .ensures) (c .before .before .before .before .before .before .before .before .before .before .before .number-of .ensures)
-    (two-copies (c .before .before .before .before .before .before .before .before .before .before .first-byte .result ∷ c .before .before .before .before .before .before .before .before .before .second-byte .result ∷ n / 256 ∷ n % 256 ∷ []) (now (a .body)) (now (a .room)) (c .before .before .before .before .before .before .copy-in .ensures) (c .before .before .copy-in2 .ensures))
+    let n = number .number-of .result in
+    let bytes = first .first-byte .result ∷ second .second-byte .result ∷ n / 256 ∷ n % 256 ∷ [] in
+    write-ok (a .from) (a .m) (now (a .body)) (now (a .room)) (via (start .may-write .ensures) (may .if1 .taken))
+    (roomy .if2 .taken) (first .first-byte .ensures) (second .second-byte .ensures) (number .number-of .ensures)
+    (two-copies bytes (now (a .body)) (now (a .room)) (c .before .before .before .before .before .before .copy-in .ensures)
+    (c .before .before .copy-in2 .ensures))
 
 returns-2 : tie.Need-returns-2
 returns-2 c = write-no-room _ _ _ _ (via (c .before .before .may-write .ensures) (c .before .if1 .taken)) (c .if2 .left)
