@@ -12,3 +12,6 @@ refused-not-ok e = let z : _≡_ {A = ℕ} 0 1 = cc in omega arith
 
 pub violation-not-ok : {A : Type 0} {a : A} {n : ℕ} → _≡_ {A = Result A} (violation n) (ok a) → ⊥
 violation-not-ok e = let z : _≡_ {A = ℕ} 0 1 = cc in omega arith
+
+pub refused-same : {A : Type 0} {n m : ℕ} → _≡_ {A = Result A} (refused n) (refused m) → n ≡ m
+refused-same e = cc

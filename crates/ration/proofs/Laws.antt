@@ -1,7 +1,7 @@
 -- What a ration is after it is spent or has grown, as sums, and that it stays in range; from the definitions.
 use mathlib.Core.Path.{_≡_, refl, ap}
 use mathlib.Core.Bool.{Bool, true, false}
-use Prim.Native.Nat.{ℕ, _-_, _*_, _≤_}
+use Prim.Native.Nat.{ℕ, _+_, _-_, _*_, _≤_}
 use native.Mathlib.Omega.{arith}
 use lib.Dec.{eqb}
 use borrow.Author.Tests.{leb-true, le-leb}
@@ -13,7 +13,6 @@ use Rattle.ration.specs.declared.Spent.the-variants.{Left, NotEnough}
 use Rattle.ration.specs.declared.Grown.the-variants.{To, PastLargest}
 use Rattle.ration.specs.Ration.{largest, fromHeader, inRange, allows, plus, minus, spend, grow}
 
--- what is left and what was spent make what stood before
 pub minus-plus : (r : Ration) (n : ℕ) → allows r n ≡ true → plus (minus r n) n ≡ r
 minus-plus (Finite left) n e = let h = leb-true n left e in ap Finite (omega arith)
 minus-plus Endless n e = refl
@@ -26,6 +25,7 @@ pub spend-refused : (r : Ration) (n : ℕ) → allows r n ≡ false → spend r 
 unfolding spend
 spend-refused r n e = no _ _ _ e
 
+-- after a spend, what is left and what was spent make what stood before
 pub spend-left : (r s : Ration) (n : ℕ) → spend r n ≡ Left s → plus s n ≡ r
 unfolding spend pick
 spend-left r s n q = go (allows r n) refl q
@@ -37,7 +37,6 @@ spend-left r s n q = go (allows r n) refl q
 pub spend-endless : (n : ℕ) → spend Endless n ≡ Left Endless
 spend-endless n = spend-allowed Endless n refl
 
--- the ration before and what it grew by make the ration after
 pub grow-in-range : (r : Ration) (n : ℕ) → inRange (plus r n) ≡ true → grow r n ≡ To (plus r n)
 unfolding grow
 grow-in-range r n e = yes _ _ _ e
@@ -46,6 +45,7 @@ pub grow-refused : (r : Ration) (n : ℕ) → inRange (plus r n) ≡ false → g
 unfolding grow
 grow-refused r n e = no _ _ _ e
 
+-- after growing, the ration is what stood before and what it grew by, and in range
 pub grow-to : (r s : Ration) (n : ℕ) → grow r n ≡ To s → (s ≡ plus r n) × (inRange s ≡ true)
 unfolding grow pick
 grow-to r s n q = go (inRange (plus r n)) refl q
@@ -57,10 +57,17 @@ grow-to r s n q = go (inRange (plus r n)) refl q
 pub grow-endless : (n : ℕ) → grow Endless n ≡ To Endless
 grow-endless n = grow-in-range Endless n refl
 
--- a ration in range stays in range when it is spent
 pub minus-in-range : (r : Ration) (n : ℕ) → inRange r ≡ true → inRange (minus r n) ≡ true
 minus-in-range (Finite left) n e = let h = leb-true left largest e in le-leb (left - n) largest (omega arith)
 minus-in-range Endless n e = refl
+
+-- a ration in range stays in range when it is spent
+pub spend-in-range : (r s : Ration) (n : ℕ) → inRange r ≡ true → spend r n ≡ Left s → inRange s ≡ true
+spend-in-range r s n h q = smaller s r n h (spend-left r s n q)
+  where
+    smaller : (s r : Ration) (n : ℕ) → inRange r ≡ true → plus s n ≡ r → inRange s ≡ true
+    smaller (Finite left) r n h e = let b = leb-true (left + n) largest (rw (← e) at h) in le-leb left largest (omega arith)
+    smaller Endless r n h e = refl
 
 -- every header number starts a ration in range
 pub start-in-range : (n : ℕ) → n ≤ 65_535 → inRange (fromHeader n) ≡ true

@@ -10,14 +10,15 @@ use Rattle.ration.specs.declared.Spent.the-variants.{Left, NotEnough}
 use Rattle.ration.specs.declared.Grown.{Grown}
 use Rattle.ration.specs.declared.Grown.the-variants.{To, PastLargest}
 
--- 0x7FFFFFFF
+-- the largest value of a finite ration, 0x7FFFFFFF
 abbrev pub largest : ℕ
 largest = 2_147_483_647
 
--- the header number times 256; 0 means endless
+-- the header number, 002's initialRation, times 256; 0 means endless, 002's infinity
 unfoldable pub fromHeader : ℕ → Ration
 fromHeader number = pick (eqb number 0) Endless (Finite (number * 256))
 
+-- a finite ration is at most the largest
 abbrev pub inRange : Ration → Bool
 inRange (Finite left) = leb left largest
 inRange Endless = true
@@ -27,19 +28,21 @@ abbrev pub allows : Ration → ℕ → Bool
 allows (Finite left) n = leb n left
 allows Endless n = true
 
--- n bytes more; an endless ration absorbs them
+-- n bytes more; an endless ration stays endless
 abbrev pub plus : Ration → ℕ → Ration
 plus (Finite left) n = Finite (left + n)
 plus Endless n = Endless
 
--- n bytes less, where they are allowed; an endless ration absorbs them
+-- n bytes less, where they are allowed; an endless ration stays endless
 abbrev pub minus : Ration → ℕ → Ration
 minus (Finite left) n = Finite (left - n)
 minus Endless n = Endless
 
+-- what is left after n bytes, where they are allowed; else there is not enough
 unfoldable pub spend : Ration → ℕ → Spent
 spend r n = pick (allows r n) (Left (minus r n)) NotEnough
 
+-- the sum with n bytes more, where it is in range; else the largest would be passed
 unfoldable pub grow : Ration → ℕ → Grown
 grow r n = pick (inRange (plus r n)) (To (plus r n)) PastLargest
 

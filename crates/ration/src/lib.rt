@@ -1,6 +1,6 @@
 // The ration: how many bytes an end may still send, or still has room for, on one session.
 ghost use mathlib.Core.Path.{_≡_};
-ghost use Rattle.ration.specs.Ration.{fromHeader, inRange, allows, spend, grow, grantable};
+ghost use Rattle.ration.specs.Ration.{largest, fromHeader, inRange, allows, spend, grow, grantable};
 
 // A finite ration, or one that never runs out.
 pub enum Ration {
@@ -34,9 +34,10 @@ impl Ration {
         Ration::Finite((number as u32) * 256)
     }
 
-    // Whether a finite ration is at most the largest.
+    // Whether a finite ration is at most the largest, which is the constant above.
     pub fn in_range(self) -> bool
         ensures { λ r. ⌜ r ≡ inRange self ⌝ }
+        ensures { λ _. do ⌜ (← ⟦Ration::LARGEST⟧ .entry) ≡ largest ⌝ }
     {
         match self {
             Ration::Finite(left) => left <= Ration::LARGEST,

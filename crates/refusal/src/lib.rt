@@ -38,7 +38,7 @@ pub enum Violation {
     UnknownType,
     // A reserved bit is set.
     ReservedBit,
-    // The connection header is not one.
+    // The eight bytes are no connection header.
     BadHeader,
     // The message is not for this sender to send.
     WrongSender,

@@ -15,7 +15,7 @@ use Rattle.laws.proofs.Results.{ok-same, refused-not-ok, violation-not-ok}
 use Rattle.laws.proofs.Words.{high, low, joined}
 use Rattle.laws.proofs.Lists.{Bytes, bytes-cons, elements, take-elements}
 use Rattle.wire.specs.Layout.{fixed, digits, initialRation}
-use Rattle.wire.specs.Connection.{connectionLayout, readHeaderNumber, readConnectionHeader, connectionHeader}
+use Rattle.wire.specs.Connection.{connectionLayout, parseConnectionHeader, readConnectionHeader, connectionHeader}
 use Rattle.wire.proofs.Tables.{two-bytes, header-fixed}
 use Rattle.wire.proofs.Reading.{header-short, header-long, number-ok}
 
@@ -70,17 +70,17 @@ module _ (s : List ℕ) (n : ℕ) (bytes : Bytes s) where
   number-held false e p = absurd (violation-not-ok p)
 
   held : readConnectionHeader s ≡ ok n → (8 ≤ length s) × (n ≡ getD s 5 0 * 256 + getD s 6 0) × (connectionHeader n ≡ elements 8 0 s)
-  unfolding readConnectionHeader readHeaderNumber pick
+  unfolding readConnectionHeader parseConnectionHeader pick
   held q = go (ltb (length s) 8) refl q
     where
-      go : (b : Bool) → ltb (length s) 8 ≡ b → pick b (refused 10) (readHeaderNumber (take 8 s)) ≡ ok n
+      go : (b : Bool) → ltb (length s) 8 ≡ b → pick b (refused 10) (parseConnectionHeader (take 8 s)) ≡ ok n
           → (8 ≤ length s) × (n ≡ getD s 5 0 * 256 + getD s 6 0) × (connectionHeader n ≡ elements 8 0 s)
       go true e p = absurd (refused-not-ok p)
       go false e p =
           let h : 8 ≤ length s = ltb-false (length s) 8 e in
           let r =
           number-held (fixed connectionLayout (elements 8 0 s)) refl
-          (ap readHeaderNumber (sym (take-elements 8 0 s (omega arith))) ∙ p) in
+          (ap parseConnectionHeader (sym (take-elements 8 0 s (omega arith))) ∙ p) in
           (h, r .0, r .1)
 
   -- writing what was read gives the same bytes

@@ -1,13 +1,23 @@
--- The effective increment by the first byte: the increment times two to the power of that byte AND 0E, computed over the 256 bytes.
-use mathlib.Core.Path.{_≡_, ap}
-use Prim.Native.Nat.{ℕ, _*_, _/_, _%_, _^_, _<_}
+-- The effective increment of a message that was read: the increment times two to the power of its first byte AND 0E.
+use mathlib.Core.Path.{_≡_, ap, _∙_}
+use Prim.Native.Nat.{ℕ, _+_, _*_, _%_, _^_, _<_}
+use mathlib.Core.List.{List}
 use lib.Bits.{bitAnd}
+use lib.ListN.{getD}
+use Rattle.laws.specs.Result.{ok}
 use Rattle.laws.proofs.Below.{below-number}
-use Rattle.wire.specs.Message.{effectiveIncrement}
+use Rattle.laws.proofs.Lists.{Bytes}
+use Rattle.wire.specs.declared.Role.{Role}
+use Rattle.wire.specs.declared.Message.the-variants.{IncrementRation}
+use Rattle.wire.specs.Message.{effectiveIncrement, readMessage}
+use Rattle.wire.proofs.Laws.{message-parsed}
 
-twice-shift : (a : ℕ) → a < 256 → 2 * (a / 2 % 8 % 8) ≡ bitAnd a 0x0E
-twice-shift = below-number (λ a. 2 * (a / 2 % 8 % 8)) (λ a. bitAnd a 0x0E) 256 tt
+twice-shift : (t : ℕ) → t < 8 → 2 * (t % 8) ≡ bitAnd (0x10 + t * 2) 0x0E
+twice-shift = below-number (λ t. 2 * (t % 8)) (λ t. bitAnd (0x10 + t * 2) 0x0E) 8 tt
 
-pub effective-by-first-byte : (a n : ℕ) → a < 256 → effectiveIncrement (a / 2 % 8) n ≡ n * 2 ^ bitAnd a 0x0E
+pub effective-by-first-byte : (from : Role) (s : List ℕ) (t i n : ℕ) → Bytes s → readMessage from s ≡ ok (IncrementRation t i n)
+    → effectiveIncrement t n ≡ n * 2 ^ bitAnd (getD s 0 0) 0x0E
 unfolding effectiveIncrement
-effective-by-first-byte a n h = ap (λ (e : ℕ). n * 2 ^ e) (twice-shift a h)
+effective-by-first-byte from s t i n bs q =
+    let p = message-parsed from s (IncrementRation t i n) bs q in
+    ap (λ (e : ℕ). n * 2 ^ e) (twice-shift t (p .shift) ∙ ap (λ (a : ℕ). bitAnd a 0x0E) (p .first))

@@ -1,4 +1,5 @@
--- Header bytes and messages are inverse to each other, from the tables: a message's header says the message, and what a header says has that header.
+-- Header bytes and messages are inverse to each other, from the tables: the header of a message is read as that message,
+-- and a message that is read has the header that it is read from.
 use mathlib.Core.Path.{_≡_, refl, sym, ap, _∙_, subst}
 use mathlib.Core.Bool.{Bool, true, false, _&&_}
 use mathlib.Core.List.{[], _∷_}
@@ -22,12 +23,12 @@ use Rattle.wire.specs.declared.Message.{Message}
 use Rattle.wire.specs.declared.Message.the-variants.{NoOperation, Shutdown, Ping, PingAck, Error, IncrementRation, Abort, Close, Acknowledgment, Data}
 use Rattle.wire.specs.FirstByte.{kindOf}
 use Rattle.wire.specs.Layout.{layout, fixed, message}
-use Rattle.wire.specs.Message.{maySend, flagsAllowed, allowed, typed, readHeader, weight, firstByte, secondByte, numberOf, shiftOf, kindOfMessage, header}
+use Rattle.wire.specs.Message.{maySend, flagsAllowed, allowed, typed, parseHeader, weight, firstByte, secondByte, numberOf, shiftOf, kindOfMessage, header}
 use Rattle.wire.proofs.FirstBytes.{code, codeOf, same}
-use Rattle.wire.proofs.Tables.{clear, said, fixed-clear, message-said}
+use Rattle.wire.proofs.Tables.{clear, decoded, fixed-clear, message-decoded}
 use Rattle.wire.proofs.Reading.{allowed-ok, header-clear}
 
--- ---- a message's header says the message
+-- ---- the header of a message is read as that message
 
 weight-most : (w : ℕ) (b : Bool) → weight w b ≤ w
 weight-most w true = omega arith
@@ -53,7 +54,7 @@ unfolding shift-test kindOf
 shift-known t h = below shift-test 8 tt t h
 
 flags-back : (o c e k : Bool) (i n : ℕ)
-    → (kindOf (firstByte (Data o c e k i n)) ≡ Known kind.Data) × (said kind.Data (firstByte (Data o c e k i n)) i n ≡ Data o c e k (i % 128) n)
+    → (kindOf (firstByte (Data o c e k i n)) ≡ Known kind.Data) × (decoded kind.Data (firstByte (Data o c e k i n)) i n ≡ Data o c e k (i % 128) n)
 unfolding kindOf
 flags-back true true true true i n = (refl, refl)
 flags-back true true true false i n = (refl, refl)
@@ -73,7 +74,7 @@ flags-back false false false true i n = (refl, refl)
 flags-back false false false false i n = (refl, refl)
 
 partial-back : (p : Bool) (i n : ℕ)
-    → (kindOf (firstByte (Abort p i n)) ≡ Known kind.Abort) × (said kind.Abort (firstByte (Abort p i n)) i n ≡ Abort p (i % 128) n)
+    → (kindOf (firstByte (Abort p i n)) ≡ Known kind.Abort) × (decoded kind.Abort (firstByte (Abort p i n)) i n ≡ Abort p (i % 128) n)
 unfolding kindOf
 partial-back true i n = (refl, refl)
 partial-back false i n = (refl, refl)
@@ -92,18 +93,18 @@ first-names (Close i) s = refl
 first-names (Acknowledgment i) s = refl
 first-names (Data o c e k i n) s = flags-back o c e k i n .0
 
-said-back : (m : Message) → shiftOf m < 8 → secondByte m < 128 → said (kindOfMessage m) (firstByte m) (secondByte m) (numberOf m) ≡ m
-said-back (NoOperation n) s h = refl
-said-back (Shutdown n) s h = refl
-said-back (Ping n) s h = refl
-said-back (PingAck n) s h = refl
-said-back (Error n) s h = refl
-said-back (IncrementRation t i n) s h =
+decoded-back : (m : Message) → shiftOf m < 8 → secondByte m < 128 → decoded (kindOfMessage m) (firstByte m) (secondByte m) (numberOf m) ≡ m
+decoded-back (NoOperation n) s h = refl
+decoded-back (Shutdown n) s h = refl
+decoded-back (Ping n) s h = refl
+decoded-back (PingAck n) s h = refl
+decoded-back (Error n) s h = refl
+decoded-back (IncrementRation t i n) s h =
     rw (eqb→eq ((0x10 + t * 2) / 2 % 8) t (T-second (eqb (code kind.IncrementRation) (codeOf (kindOf (0x10 + t * 2)))) (eqb ((0x10 + t * 2) / 2 % 8) t) (shift-known t s)), mod-eq-of-lt h)
-said-back (Abort p i n) s h = partial-back p i n .1 ∙ rw (mod-eq-of-lt h)
-said-back (Close i) s h = ap Close (mod-eq-of-lt h)
-said-back (Acknowledgment i) s h = ap Acknowledgment (mod-eq-of-lt h)
-said-back (Data o c e k i n) s h = flags-back o c e k i n .1 ∙ rw (mod-eq-of-lt h)
+decoded-back (Abort p i n) s h = partial-back p i n .1 ∙ rw (mod-eq-of-lt h)
+decoded-back (Close i) s h = ap Close (mod-eq-of-lt h)
+decoded-back (Acknowledgment i) s h = ap Acknowledgment (mod-eq-of-lt h)
+decoded-back (Data o c e k i n) s h = flags-back o c e k i n .1 ∙ rw (mod-eq-of-lt h)
 
 clear-back : (m : Message) → secondByte m < 128 → clear (kindOfMessage m) (secondByte m) (numberOf m / 256) (numberOf m % 256) ≡ true
 clear-back (NoOperation n) h = refl
@@ -117,10 +118,10 @@ clear-back (Close i) h = and-both (and-both (lt-ltb i 128 h) refl) refl
 clear-back (Acknowledgment i) h = and-both (and-both (lt-ltb i 128 h) refl) refl
 clear-back (Data o c e k i n) h = lt-ltb i 128 h
 
--- the header of a message whose items fit says the message, to whom its sender may send it
-pub header-says : (from : Role) (m : Message) → shiftOf m < 8 → secondByte m < 128 → numberOf m < 65_536
-    → maySend from (kindOfMessage m) ≡ true → flagsAllowed from m ≡ true → readHeader from (header m) ≡ ok m
-header-says from m s i n p q =
+-- the header of a message whose items fit is read as the message, where its sender may send it
+pub header-reads : (from : Role) (m : Message) → shiftOf m < 8 → secondByte m < 128 → numberOf m < 65_536
+    → maySend from (kindOfMessage m) ≡ true → flagsAllowed from m ≡ true → parseHeader from (header m) ≡ ok m
+header-reads from m s i n p q =
     let a = firstByte m in
     let b = secondByte m in
     let c = numberOf m / 256 in
@@ -132,17 +133,17 @@ header-says from m s i n p q =
     sym
     (header-clear from a b c d named
     (sym (fixed-clear a b c d hb hc hd (first-byte m s) (kindOfMessage m) (kindOfMessage m) refl named) ∙ clear-back m i)
-    (sym (said-back m s i)
-    ∙ message-said a b c d (first-byte m s) hb hc hd (kindOfMessage m) (kindOfMessage m) (numberOf m) refl (sym (joined (numberOf m))))
+    (sym (decoded-back m s i)
+    ∙ message-decoded a b c d (first-byte m s) hb hc hd (kindOfMessage m) (kindOfMessage m) (numberOf m) refl (sym (joined (numberOf m))))
     (allowed-ok from (kindOfMessage m) m p q))
 
--- ---- what a header says has that header
+-- ---- a message that is read has the header that it is read from
 
 abbrev firstBack : Named → ℕ → Bool
-firstBack (Known k) a = eqb (firstByte (said k a 0 0)) a
+firstBack (Known k) a = eqb (firstByte (decoded k a 0 0)) a
 firstBack Unknown a = true
 
-first-alone : (k : Kind) (a b n : ℕ) → firstByte (said k a b n) ≡ firstByte (said k a 0 0)
+first-alone : (k : Kind) (a b n : ℕ) → firstByte (decoded k a b n) ≡ firstByte (decoded k a 0 0)
 first-alone kind.NoOperation a b n = refl
 first-alone kind.Shutdown a b n = refl
 first-alone kind.Ping a b n = refl
@@ -154,15 +155,15 @@ first-alone kind.Close a b n = refl
 first-alone kind.Acknowledgment a b n = refl
 first-alone kind.Data a b n = refl
 
-first-said : (a : ℕ) → a < 256 → (k : Kind) (b n : ℕ) → kindOf a ≡ Known k → firstByte (said k a b n) ≡ a
+first-decoded : (a : ℕ) → a < 256 → (k : Kind) (b n : ℕ) → kindOf a ≡ Known k → firstByte (decoded k a b n) ≡ a
 unfolding kindOf
-first-said a h k b n e =
+first-decoded a h k b n e =
     first-alone k a b n
-    ∙ eqb→eq (firstByte (said k a 0 0)) a
+    ∙ eqb→eq (firstByte (decoded k a 0 0)) a
     (subst (λ (m : Named). T (firstBack m a)) e (below (λ a. firstBack (kindOf a) a) 256 tt a h))
 
--- what a message that a header says has, beside the header's own bytes
-pub record Said (k : Kind) (b n : ℕ) (m : Message) : Type 0 where
+-- what a message has that is decoded from a header with the fixed bits of its type
+pub record Decoded (k : Kind) (b n : ℕ) (m : Message) : Type 0 where
   pub second : secondByte m ≡ b
   pub number : numberOf m ≡ n
   pub shift : shiftOf m < 8
@@ -187,17 +188,17 @@ no-number b c d e =
 bare-session : (b c d : ℕ) → (ltb b 128 && eqb c 0 && eqb d 0) ≡ true → b % 128 ≡ b
 bare-session b c d e = session-same b (and-first (ltb b 128) (eqb c 0) (and-first (ltb b 128 && eqb c 0) (eqb d 0) e))
 
-said-has : (k : Kind) (a b c d : ℕ) → clear k b c d ≡ true → Said k b (c * 256 + d) (said k a b (c * 256 + d))
-said-has kind.NoOperation a b c d e = record { second = zero-second b c e; number = refl; shift = omega arith; session = omega arith; kinds = refl }
-said-has kind.Shutdown a b c d e = record { second = zero-second b c e; number = refl; shift = omega arith; session = omega arith; kinds = refl }
-said-has kind.Ping a b c d e = record { second = zero-second b c e; number = refl; shift = omega arith; session = omega arith; kinds = refl }
-said-has kind.PingAck a b c d e = record { second = zero-second b c e; number = refl; shift = omega arith; session = omega arith; kinds = refl }
-said-has kind.Error a b c d e = record { second = zero-second b c e; number = refl; shift = omega arith; session = omega arith; kinds = refl }
-said-has kind.IncrementRation a b c d e = record { second = session-same b e; number = refl; shift = omega arith; session = session-small b; kinds = refl }
-said-has kind.Abort a b c d e = record { second = session-same b e; number = refl; shift = omega arith; session = session-small b; kinds = refl }
-said-has kind.Close a b c d e = record { second = bare-session b c d e; number = no-number b c d e; shift = omega arith; session = session-small b; kinds = refl }
-said-has kind.Acknowledgment a b c d e = record { second = bare-session b c d e; number = no-number b c d e; shift = omega arith; session = session-small b; kinds = refl }
-said-has kind.Data a b c d e = record { second = session-same b e; number = refl; shift = omega arith; session = session-small b; kinds = refl }
+decoded-has : (k : Kind) (a b c d : ℕ) → clear k b c d ≡ true → Decoded k b (c * 256 + d) (decoded k a b (c * 256 + d))
+decoded-has kind.NoOperation a b c d e = record { second = zero-second b c e; number = refl; shift = omega arith; session = omega arith; kinds = refl }
+decoded-has kind.Shutdown a b c d e = record { second = zero-second b c e; number = refl; shift = omega arith; session = omega arith; kinds = refl }
+decoded-has kind.Ping a b c d e = record { second = zero-second b c e; number = refl; shift = omega arith; session = omega arith; kinds = refl }
+decoded-has kind.PingAck a b c d e = record { second = zero-second b c e; number = refl; shift = omega arith; session = omega arith; kinds = refl }
+decoded-has kind.Error a b c d e = record { second = zero-second b c e; number = refl; shift = omega arith; session = omega arith; kinds = refl }
+decoded-has kind.IncrementRation a b c d e = record { second = session-same b e; number = refl; shift = omega arith; session = session-small b; kinds = refl }
+decoded-has kind.Abort a b c d e = record { second = session-same b e; number = refl; shift = omega arith; session = session-small b; kinds = refl }
+decoded-has kind.Close a b c d e = record { second = bare-session b c d e; number = no-number b c d e; shift = omega arith; session = session-small b; kinds = refl }
+decoded-has kind.Acknowledgment a b c d e = record { second = bare-session b c d e; number = no-number b c d e; shift = omega arith; session = session-small b; kinds = refl }
+decoded-has kind.Data a b c d e = record { second = session-same b e; number = refl; shift = omega arith; session = session-small b; kinds = refl }
 
 -- a message that the checks let pass
 record Passed (from : Role) (k : Kind) (l m : Message) : Type 0 where
@@ -216,7 +217,7 @@ passed from k l m q = go (maySend from k) (flagsAllowed from l) refl refl q
     go false false s f p = absurd (violation-not-ok p)
 
 -- what a message read from four bytes has
-pub record Told (from : Role) (a b n : ℕ) (m : Message) : Type 0 where
+pub record Parsed (from : Role) (a b n : ℕ) (m : Message) : Type 0 where
   pub first : firstByte m ≡ a
   pub second : secondByte m ≡ b
   pub number : numberOf m ≡ n
@@ -226,11 +227,11 @@ pub record Told (from : Role) (a b n : ℕ) (m : Message) : Type 0 where
   pub flags : flagsAllowed from m ≡ true
 
 module _ (from : Role) (a b c d : ℕ) (ha : a < 256) (hb : b < 256) (hc : c < 256) (hd : d < 256) (m : Message) where
-  told-said : (k : Kind) → kindOf a ≡ Known k → clear k b c d ≡ true → maySend from k ≡ true → said k a b (c * 256 + d) ≡ m → flagsAllowed from m ≡ true → Told from a b (c * 256 + d) m
-  told-said k e cl s p f =
-      let h = subst (λ (l : Message). Said k b (c * 256 + d) l) p (said-has k a b c d cl) in
+  parsed-decoded : (k : Kind) → kindOf a ≡ Known k → clear k b c d ≡ true → maySend from k ≡ true → decoded k a b (c * 256 + d) ≡ m → flagsAllowed from m ≡ true → Parsed from a b (c * 256 + d) m
+  parsed-decoded k e cl s p f =
+      let h = subst (λ (l : Message). Decoded k b (c * 256 + d) l) p (decoded-has k a b c d cl) in
       record {
-        first = ap firstByte (sym p) ∙ first-said a ha k b (c * 256 + d) e;
+        first = ap firstByte (sym p) ∙ first-decoded a ha k b (c * 256 + d) e;
         second = h .second;
         number = h .number;
         shift = h .shift;
@@ -239,23 +240,23 @@ module _ (from : Role) (a b c d : ℕ) (ha : a < 256) (hb : b < 256) (hc : c < 2
         flags = f;
       }
 
-  known-told : (k : Kind) → kindOf a ≡ Known k → typed from (a ∷ b ∷ c ∷ d ∷ []) (Known k) ≡ ok m → Told from a b (c * 256 + d) m
+  known-parsed : (k : Kind) → kindOf a ≡ Known k → typed from (a ∷ b ∷ c ∷ d ∷ []) (Known k) ≡ ok m → Parsed from a b (c * 256 + d) m
   unfolding typed pick
-  known-told k e q = go (fixed (layout k) (a ∷ b ∷ c ∷ d ∷ [])) refl q
+  known-parsed k e q = go (fixed (layout k) (a ∷ b ∷ c ∷ d ∷ [])) refl q
     where
       go : (f : Bool) → fixed (layout k) (a ∷ b ∷ c ∷ d ∷ []) ≡ f
-          → pick f (allowed from k (message k (a ∷ b ∷ c ∷ d ∷ []))) (violation 21) ≡ ok m → Told from a b (c * 256 + d) m
+          → pick f (allowed from k (message k (a ∷ b ∷ c ∷ d ∷ []))) (violation 21) ≡ ok m → Parsed from a b (c * 256 + d) m
       go true f p =
           let w = passed from k (message k (a ∷ b ∷ c ∷ d ∷ [])) m p in
-          told-said k e (fixed-clear a b c d hb hc hd ha k k refl e ∙ f) (w .sends)
-          (message-said a b c d ha hb hc hd k k (c * 256 + d) refl refl ∙ w .is)
+          parsed-decoded k e (fixed-clear a b c d hb hc hd ha k k refl e ∙ f) (w .sends)
+          (message-decoded a b c d ha hb hc hd k k (c * 256 + d) refl refl ∙ w .is)
           (subst (λ (l : Message). flagsAllowed from l ≡ true) (w .is) (w .allows))
       go false f p = absurd (violation-not-ok p)
 
-  pub header-told : readHeader from (a ∷ b ∷ c ∷ d ∷ []) ≡ ok m → Told from a b (c * 256 + d) m
-  unfolding readHeader typed
-  header-told q = go (kindOf a) refl q
+  pub header-parsed : parseHeader from (a ∷ b ∷ c ∷ d ∷ []) ≡ ok m → Parsed from a b (c * 256 + d) m
+  unfolding parseHeader typed
+  header-parsed q = go (kindOf a) refl q
     where
-      go : (n : Named) → kindOf a ≡ n → typed from (a ∷ b ∷ c ∷ d ∷ []) n ≡ ok m → Told from a b (c * 256 + d) m
-      go (Known k) e p = known-told k e p
+      go : (n : Named) → kindOf a ≡ n → typed from (a ∷ b ∷ c ∷ d ∷ []) n ≡ ok m → Parsed from a b (c * 256 + d) m
+      go (Known k) e p = known-parsed k e p
       go Unknown e p = absurd (violation-not-ok p)

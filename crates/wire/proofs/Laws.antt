@@ -1,5 +1,5 @@
--- The laws of the wire format, once for both roles: reading and writing are inverse, the writer refuses exactly what
--- the reader gives back from no bytes, and a message cut short is incomplete. From the inverse of header and message.
+-- The laws of the wire format, once for both roles: reading and writing are inverse, the writer refuses exactly a message
+-- that is read from no bytes at all, and a message cut short is incomplete. From the inverse of header and message.
 use mathlib.Core.Path.{_≡_, refl, sym, ap, _∙_}
 use mathlib.Core.Logic.{_↔_}
 use mathlib.Core.Bool.{Bool, true, false}
@@ -19,16 +19,16 @@ use Rattle.laws.proofs.Words.{high, low}
 use Rattle.laws.proofs.Lists.{Bytes, bytes-cons, elements, take-elements}
 use Rattle.wire.specs.declared.Role.{Role}
 use Rattle.wire.specs.declared.Message.{Message}
-use Rattle.wire.specs.Message.{readHeader, bodyLength, withBody, readMessage, firstByte, secondByte, numberOf, header, writable}
+use Rattle.wire.specs.Message.{parseHeader, bodyLength, withBody, readMessage, firstByte, secondByte, numberOf, header, writable}
 use Rattle.wire.proofs.Reading.{message-short, message-long}
 use Rattle.wire.proofs.Writing.{writable-has}
-use Rattle.wire.proofs.Inverse.{first-byte, header-says, Told, header-told}
+use Rattle.wire.proofs.Inverse.{first-byte, header-reads, Parsed, header-parsed}
 
 -- ---- reading what was written
 
 module _ (from : Role) (m : Message) (body : List ℕ) (number : numberOf m < 65_536) (w : writable from m (length body) ≡ true) where
-  says : ok m ≡ readHeader from (header m)
-  says = let h = writable-has from m (length body) w in sym (header-says from m (h .shift) (h .session) number (h .sender) (h .flags))
+  reads : ok m ≡ parseHeader from (header m)
+  reads = let h = writable-has from m (length body) w in sym (header-reads from m (h .shift) (h .session) number (h .sender) (h .flags))
 
   -- reading what was written gives the same message, whatever follows
   pub read-written : (rest : List ℕ) → readMessage from (header m ++ (body ++ rest)) ≡ ok m
@@ -39,7 +39,7 @@ module _ (from : Role) (m : Message) (body : List ℕ) (number : numberOf m < 65
       length-append (header m) (body ++ rest) ∙ ap (λ (n : ℕ). 4 + n) (length-append body rest) in
       let b = h .body in
       let fits : 4 + bodyLength m ≤ length (header m ++ (body ++ rest)) = omega arith in
-      sym (message-long from s (omega arith) says (sym (yes _ _ _ (le-leb _ _ fits))))
+      sym (message-long from s (omega arith) reads (sym (yes _ _ _ (le-leb _ _ fits))))
 
   cut-header : (k : ℕ) → k < 4 → readMessage from (take k (header m ++ body)) ≡ refused 10
   cut-header k h =
@@ -52,7 +52,7 @@ module _ (from : Role) (m : Message) (body : List ℕ) (number : numberOf m < 65
       let l : length (header m ++ take j body) ≡ 4 + j =
       length-append (header m) (take j body) ∙ ap (λ (n : ℕ). 4 + n) (simp length-take (omega arith)) in
       let short : length (header m ++ take j body) < 4 + bodyLength m = omega arith in
-      sym (message-long from (header m ++ take j body) (omega arith) says (sym (no _ _ _ (lt-leb _ _ short))))
+      sym (message-long from (header m ++ take j body) (omega arith) reads (sym (no _ _ _ (lt-leb _ _ short))))
 
   -- a proper prefix of a written message is incomplete, and nothing else
   pub read-short : (k : ℕ) → k < 4 + length body → readMessage from (take k (header m ++ body)) ≡ refused 10
@@ -69,19 +69,19 @@ module _ (from : Role) (m : Message) (body : List ℕ) (number : numberOf m < 65
 
 -- ---- writing what was read
 
--- what an input that says a message holds
+-- what an input holds that is read as a message
 pub record Holds (from : Role) (s : List ℕ) (m : Message) : Type 0 where
   pub long : 4 + bodyLength m ≤ length s
-  pub says : readHeader from (elements 4 0 s) ≡ ok m
+  pub reads : parseHeader from (elements 4 0 s) ≡ ok m
 
-holds-body : (from : Role) (s : List ℕ) (m : Message) (r : Result Message) → readHeader from (elements 4 0 s) ≡ r → withBody (length s) r ≡ ok m → Holds from s m
+holds-body : (from : Role) (s : List ℕ) (m : Message) (r : Result Message) → parseHeader from (elements 4 0 s) ≡ r → withBody (length s) r ≡ ok m → Holds from s m
 unfolding pick
 holds-body from s m (ok l) e q = go (leb (4 + bodyLength l) (length s)) refl q
   where
     go : (b : Bool) → leb (4 + bodyLength l) (length s) ≡ b → pick b (ok l) (refused 10) ≡ ok m → Holds from s m
     go true f p =
         let same = ok-same p in
-        record { long = rw (← same) (leb-true _ _ f); says = e ∙ ap ok same }
+        record { long = rw (← same) (leb-true _ _ f); reads = e ∙ ap ok same }
     go false f p = absurd (refused-not-ok p)
 holds-body from s m (refused n) e q = absurd (refused-not-ok q)
 holds-body from s m (violation n) e q = absurd (violation-not-ok q)
@@ -90,20 +90,20 @@ pub message-holds : (from : Role) (s : List ℕ) (m : Message) → readMessage f
 unfolding readMessage pick
 message-holds from s m q = go (ltb (length s) 4) refl q
   where
-    go : (b : Bool) → ltb (length s) 4 ≡ b → pick b (refused 10) (withBody (length s) (readHeader from (take 4 s))) ≡ ok m → Holds from s m
+    go : (b : Bool) → ltb (length s) 4 ≡ b → pick b (refused 10) (withBody (length s) (parseHeader from (take 4 s))) ≡ ok m → Holds from s m
     go true e p = absurd (refused-not-ok p)
     go false e p =
         let h : 4 ≤ length s = ltb-false (length s) 4 e in
-        holds-body from s m (readHeader from (elements 4 0 s)) refl
-        (ap (λ (l : List ℕ). withBody (length s) (readHeader from l)) (sym (take-elements 4 0 s (omega arith))) ∙ p)
+        holds-body from s m (parseHeader from (elements 4 0 s)) refl
+        (ap (λ (l : List ℕ). withBody (length s) (parseHeader from l)) (sym (take-elements 4 0 s (omega arith))) ∙ p)
 
 module _ (from : Role) (s : List ℕ) (m : Message) (bytes : Bytes s) (q : readMessage from s ≡ ok m) where
-  told : Told from (getD s 0 0) (getD s 1 0) (getD s 2 0 * 256 + getD s 3 0) m
-  told = header-told from _ _ _ _ (bytes 0) (bytes 1) (bytes 2) (bytes 3) m (message-holds from s m q .says)
+  pub message-parsed : Parsed from (getD s 0 0) (getD s 1 0) (getD s 2 0 * 256 + getD s 3 0) m
+  message-parsed = header-parsed from _ _ _ _ (bytes 0) (bytes 1) (bytes 2) (bytes 3) m (message-holds from s m q .reads)
 
   header-elements : header m ≡ elements 4 0 s
   header-elements =
-      let t = told in
+      let t = message-parsed in
       rw (t .first, t .second, t .number, high (getD s 2 0) (getD s 3 0) (bytes 3), low (getD s 2 0) (getD s 3 0) (bytes 3))
 
   -- writing what was read gives the same bytes
@@ -117,14 +117,14 @@ module _ (from : Role) (s : List ℕ) (m : Message) (bytes : Bytes s) (q : readM
   pub read-writable : writable from m (bodyLength m) ≡ true
   unfolding writable
   read-writable =
-      let t = told in
+      let t = message-parsed in
       and-both
       (and-both (and-both (and-both (lt-ltb _ _ (t .shift)) (lt-ltb _ _ (t .session))) (t .sender)) (t .flags))
       (eq-eqb (bodyLength m) (bodyLength m) refl)
 
 -- ---- what the writer refuses
 
--- bytes that the reader gives back as the message, with the body behind its header
+-- bytes that are read as the message, with the body behind its header
 pub record GivenBack (from : Role) (m : Message) (body : List ℕ) : Type 0 where
   pub bytes : List ℕ
   pub each : Bytes bytes
@@ -158,6 +158,6 @@ module _ (from : Role) (m : Message) (body : List ℕ) where
       let l : bodyLength m ≡ length body = omega (arith, ap length (g .follows), length-drop 4 (g .bytes), g .whole) in
       ap (writable from m) (sym l) ∙ read-writable from (g .bytes) m (g .each) (g .reads)
 
-  -- the writer refuses a message and a body exactly where no bytes are given back as them
+  -- a message and a body may be written exactly where some bytes are read as them
   pub writer-exact : Bytes body → numberOf m < 65_536 → (writable from m (length body) ≡ true) ↔ GivenBack from m body
   writer-exact bs n = (written-back bs n, back-writable)

@@ -8,3 +8,4 @@ pub mod Inverse
 pub mod Laws
 pub mod ConnectionLaws
 pub mod Increments
+pub mod Writers

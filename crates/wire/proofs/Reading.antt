@@ -16,8 +16,8 @@ use Rattle.wire.specs.declared.Named.the-variants.{Known, Unknown}
 use Rattle.wire.specs.declared.Message.{Message}
 use Rattle.wire.specs.FirstByte.{kindOf}
 use Rattle.wire.specs.Layout.{layout, fixed, digits, initialRation, message}
-use Rattle.wire.specs.Message.{maySend, flagsAllowed, allowed, typed, readHeader, withBody, readMessage}
-use Rattle.wire.specs.Connection.{connectionLayout, readHeaderNumber, readConnectionHeader}
+use Rattle.wire.specs.Message.{maySend, flagsAllowed, allowed, typed, parseHeader, withBody, readMessage}
+use Rattle.wire.specs.Connection.{connectionLayout, parseConnectionHeader, readConnectionHeader}
 
 -- ---- the sender's type and flags
 
@@ -36,20 +36,20 @@ allowed-sender from k m p = sym (no _ _ _ p)
 -- ---- the four header bytes
 
 module _ (from : Role) (a b c d : ℕ) where
-  named : {n : Named} → kindOf a ≡ n → typed from (a ∷ b ∷ c ∷ d ∷ []) n ≡ readHeader from (a ∷ b ∷ c ∷ d ∷ [])
-  unfolding readHeader
+  named : {n : Named} → kindOf a ≡ n → typed from (a ∷ b ∷ c ∷ d ∷ []) n ≡ parseHeader from (a ∷ b ∷ c ∷ d ∷ [])
+  unfolding parseHeader
   named e = ap (typed from (a ∷ b ∷ c ∷ d ∷ [])) (sym e)
 
   pub header-clear : {k : Kind} {m : Message} {r : Result Message} → kindOf a ≡ Known k → fixed (layout k) (a ∷ b ∷ c ∷ d ∷ []) ≡ true
-      → m ≡ message k (a ∷ b ∷ c ∷ d ∷ []) → r ≡ allowed from k m → r ≡ readHeader from (a ∷ b ∷ c ∷ d ∷ [])
+      → m ≡ message k (a ∷ b ∷ c ∷ d ∷ []) → r ≡ allowed from k m → r ≡ parseHeader from (a ∷ b ∷ c ∷ d ∷ [])
   unfolding typed
   header-clear {k} e f p q = q ∙ ap (allowed from k) p ∙ sym (yes _ _ _ f) ∙ named e
 
-  pub header-reserved : {k : Kind} → kindOf a ≡ Known k → fixed (layout k) (a ∷ b ∷ c ∷ d ∷ []) ≡ false → violation 21 ≡ readHeader from (a ∷ b ∷ c ∷ d ∷ [])
+  pub header-reserved : {k : Kind} → kindOf a ≡ Known k → fixed (layout k) (a ∷ b ∷ c ∷ d ∷ []) ≡ false → violation 21 ≡ parseHeader from (a ∷ b ∷ c ∷ d ∷ [])
   unfolding typed
   header-reserved e f = sym (no _ _ _ f) ∙ named e
 
-  pub header-unknown : kindOf a ≡ Unknown → violation 20 ≡ readHeader from (a ∷ b ∷ c ∷ d ∷ [])
+  pub header-unknown : kindOf a ≡ Unknown → violation 20 ≡ parseHeader from (a ∷ b ∷ c ∷ d ∷ [])
   unfolding typed
   header-unknown e = named e
 
@@ -59,26 +59,26 @@ pub message-short : (from : Role) (s : List ℕ) → length s < 4 → refused 10
 unfolding readMessage
 message-short from s h = sym (yes _ _ _ (lt-ltb _ _ h))
 
-pub message-long : (from : Role) (s : List ℕ) {p r : Result Message} → 4 ≤ length s → p ≡ readHeader from (elements 4 0 s) → r ≡ withBody (length s) p → r ≡ readMessage from s
+pub message-long : (from : Role) (s : List ℕ) {p r : Result Message} → 4 ≤ length s → p ≡ parseHeader from (elements 4 0 s) → r ≡ withBody (length s) p → r ≡ readMessage from s
 unfolding readMessage
 message-long from s h e q =
-    q ∙ ap (withBody (length s)) (e ∙ ap (readHeader from) (sym (take-elements 4 0 s (omega arith))))
+    q ∙ ap (withBody (length s)) (e ∙ ap (parseHeader from) (sym (take-elements 4 0 s (omega arith))))
     ∙ sym (no _ _ _ (le-ltb _ _ h))
 
 pub header-short : (s : List ℕ) → length s < 8 → refused 10 ≡ readConnectionHeader s
 unfolding readConnectionHeader
 header-short s h = sym (yes _ _ _ (lt-ltb _ _ h))
 
-pub header-long : (s : List ℕ) {r : Result ℕ} → 8 ≤ length s → r ≡ readHeaderNumber (elements 8 0 s) → r ≡ readConnectionHeader s
+pub header-long : (s : List ℕ) {r : Result ℕ} → 8 ≤ length s → r ≡ parseConnectionHeader (elements 8 0 s) → r ≡ readConnectionHeader s
 unfolding readConnectionHeader
-header-long s h e = e ∙ ap readHeaderNumber (sym (take-elements 8 0 s (omega arith))) ∙ sym (no _ _ _ (le-ltb _ _ h))
+header-long s h e = e ∙ ap parseConnectionHeader (sym (take-elements 8 0 s (omega arith))) ∙ sym (no _ _ _ (le-ltb _ _ h))
 
 -- ---- the eight bytes of a connection header
 
-pub number-ok : (h : List ℕ) {n : ℕ} → fixed connectionLayout h ≡ true → n ≡ digits initialRation connectionLayout h 0 → ok n ≡ readHeaderNumber h
-unfolding readHeaderNumber
+pub number-ok : (h : List ℕ) {n : ℕ} → fixed connectionLayout h ≡ true → n ≡ digits initialRation connectionLayout h 0 → ok n ≡ parseConnectionHeader h
+unfolding parseConnectionHeader
 number-ok h e q = ap ok q ∙ sym (yes _ _ _ e)
 
-pub number-bad : (h : List ℕ) → fixed connectionLayout h ≡ false → violation 22 ≡ readHeaderNumber h
-unfolding readHeaderNumber
+pub number-bad : (h : List ℕ) → fixed connectionLayout h ≡ false → violation 22 ≡ parseConnectionHeader h
+unfolding parseConnectionHeader
 number-bad h e = sym (no _ _ _ e)

@@ -1,6 +1,6 @@
 -- What the layout tables say of four header bytes, in sums and tests of each byte, from tests computed over the 256 bytes.
 use mathlib.Core.Path.{_≡_, refl, ap, sym, _∙_, subst}
-use mathlib.Core.Bool.{Bool, true, false, _&&_, Bool·beq, and-true, and-assoc}
+use mathlib.Core.Bool.{cond, Bool, true, false, _&&_, Bool·beq, and-true, and-assoc}
 use mathlib.Core.List.{List, [], _∷_, _++_}
 use Prim.Native.Nat.{ℕ, _+_, _*_, _/_, _%_, _<_}
 use native.Mathlib.Omega.{arith}
@@ -14,7 +14,8 @@ use Rattle.wire.specs.declared.Message.{Message}
 use Rattle.wire.specs.declared.Message.the-variants.{NoOperation, Shutdown, Ping, PingAck, Error, IncrementRation, Abort, Close, Acknowledgment, Data}
 use Rattle.wire.specs.Pattern.{Bit, O, I, x, -, bits, fits, withBits}
 use Rattle.wire.specs.FirstByte.{kindOf}
-use Rattle.wire.specs.Layout.{Row, layout, fixed, message}
+use Rattle.wire.specs.Layout.{Row, layout, fixed, has, item, message, body, length}
+use Rattle.wire.specs.Message.{bodyLength}
 use Rattle.wire.specs.Connection.{connectionLayout}
 use Rattle.laws.proofs.Below.{every, below, below-number, below-test}
 use Rattle.laws.proofs.Tests.{T-true, and-same}
@@ -145,17 +146,17 @@ module _ (a b c d : ℕ) (hb : b < 256) (hc : c < 256) (hd : d < 256) where
 -- ---- the items that a layout has
 
 -- the message of each type, from the first byte, the second and the number
-abbrev pub said : Kind → ℕ → ℕ → ℕ → Message
-said kind.NoOperation a b n = NoOperation n
-said kind.Shutdown a b n = Shutdown n
-said kind.Ping a b n = Ping n
-said kind.PingAck a b n = PingAck n
-said kind.Error a b n = Error n
-said kind.IncrementRation a b n = IncrementRation (a / 2 % 8) (b % 128) n
-said kind.Abort a b n = Abort (eqb (a / 2 % 2) 1) (b % 128) n
-said kind.Close a b n = Close (b % 128)
-said kind.Acknowledgment a b n = Acknowledgment (b % 128)
-said kind.Data a b n = Data (eqb (a / 16 % 2) 1) (eqb (a / 8 % 2) 1) (eqb (a / 4 % 2) 1) (eqb (a / 2 % 2) 1) (b % 128) n
+abbrev pub decoded : Kind → ℕ → ℕ → ℕ → Message
+decoded kind.NoOperation a b n = NoOperation n
+decoded kind.Shutdown a b n = Shutdown n
+decoded kind.Ping a b n = Ping n
+decoded kind.PingAck a b n = PingAck n
+decoded kind.Error a b n = Error n
+decoded kind.IncrementRation a b n = IncrementRation (a / 2 % 8) (b % 128) n
+decoded kind.Abort a b n = Abort (eqb (a / 2 % 2) 1) (b % 128) n
+decoded kind.Close a b n = Close (b % 128)
+decoded kind.Acknowledgment a b n = Acknowledgment (b % 128)
+decoded kind.Data a b n = Data (eqb (a / 16 % 2) 1) (eqb (a / 8 % 2) 1) (eqb (a / 4 % 2) 1) (eqb (a / 2 % 2) 1) (b % 128) n
 
 increment-same : {s s′ i i′ n n′ : ℕ} → s ≡ s′ → i ≡ i′ → n ≡ n′ → IncrementRation s i n ≡ IncrementRation s′ i′ n′
 increment-same p q r = cc
@@ -167,7 +168,7 @@ pub data-same : {o o′ c c′ e e′ k k′ : Bool} {i i′ n n′ : ℕ} → o
 data-same p q r s t u = cc
 
 module _ (a b c d : ℕ) (ha : a < 256) (hb : b < 256) (hc : c < 256) (hd : d < 256) where
-  items : (k : Kind) → message k (a ∷ b ∷ c ∷ d ∷ []) ≡ said k a b (c * 256 + d)
+  items : (k : Kind) → message k (a ∷ b ∷ c ∷ d ∷ []) ≡ decoded k a b (c * 256 + d)
   items kind.NoOperation = ap NoOperation (two-bytes c d hc hd)
   items kind.Shutdown = ap Shutdown (two-bytes c d hc hd)
   items kind.Ping = ap Ping (two-bytes c d hc hd)
@@ -180,11 +181,24 @@ module _ (a b c d : ℕ) (ha : a < 256) (hb : b < 256) (hc : c < 256) (hd : d < 
   items kind.Data =
       data-same (flag-16 a ha) (flag-8 a ha) (flag-4 a ha) (flag-2 a ha) (low-seven b hb) (two-bytes c d hc hd)
 
-  pub message-said : (k j : Kind) (n : ℕ) → k ≡ j → n ≡ c * 256 + d → said j a b n ≡ message k (a ∷ b ∷ c ∷ d ∷ [])
-  message-said k j n p q = same p q ∙ sym (items k)
+  pub message-decoded : (k j : Kind) (n : ℕ) → k ≡ j → n ≡ c * 256 + d → decoded j a b n ≡ message k (a ∷ b ∷ c ∷ d ∷ [])
+  message-decoded k j n p q = same p q ∙ sym (items k)
     where
-      same : k ≡ j → n ≡ c * 256 + d → said j a b n ≡ said k a b (c * 256 + d)
+      same : k ≡ j → n ≡ c * 256 + d → decoded j a b n ≡ decoded k a b (c * 256 + d)
       same p q = rw (p, q)
+
+-- bytes follow the header exactly where the layout has a row for them, and as many as the length says
+pub body-follows : (k : Kind) (h : List ℕ) → bodyLength (message k h) ≡ cond (has body (layout k)) (item k length h) 0
+body-follows kind.NoOperation h = refl
+body-follows kind.Shutdown h = refl
+body-follows kind.Ping h = refl
+body-follows kind.PingAck h = refl
+body-follows kind.Error h = refl
+body-follows kind.IncrementRation h = refl
+body-follows kind.Abort h = refl
+body-follows kind.Close h = refl
+body-follows kind.Acknowledgment h = refl
+body-follows kind.Data h = refl
 
 -- ---- the connection header
 

@@ -21,13 +21,13 @@ connectionLayout =
     ∷ []
 
 -- what the eight bytes say: the header number, or 22
-unfoldable pub readHeaderNumber : List ℕ → Result ℕ
-readHeaderNumber header =
+unfoldable pub parseConnectionHeader : List ℕ → Result ℕ
+parseConnectionHeader header =
     pick (fixed connectionLayout header) (ok (digits initialRation connectionLayout header 0)) (violation 22)
 
 -- what stands first in the input: 10 for fewer than 8 bytes
 unfoldable pub readConnectionHeader : List ℕ → Result ℕ
-readConnectionHeader s = pick (ltb (length s) 8) (refused 10) (readHeaderNumber (take 8 s))
+readConnectionHeader s = pick (ltb (length s) 8) (refused 10) (parseConnectionHeader (take 8 s))
 
 -- "Jmux", version 1, the number, 0
 abbrev pub connectionHeader : ℕ → List ℕ

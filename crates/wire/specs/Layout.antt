@@ -1,7 +1,7 @@
 -- The published layout tables: which bits of a header are reserved, and which hold each item.
 use Prim.Native.Nat.{ℕ}
 use mathlib.Core.List.{List, [], _∷_}
-use mathlib.Core.Bool.{Bool, true, _&&_, cond}
+use mathlib.Core.Bool.{Bool, true, false, _&&_, _||_, cond}
 use lib.ListN.{getD}
 use lib.Dec.{eqb}
 use Rattle.wire.specs.Pattern.{Bit, O, I, x, -, bits, fits, withBits}
@@ -10,11 +10,13 @@ use Rattle.wire.specs.declared.Kind.the-variants as kind
 use Rattle.wire.specs.declared.Message.{Message}
 use Rattle.wire.specs.declared.Message.the-variants.{NoOperation, Shutdown, Ping, PingAck, Error, IncrementRation, Abort, Close, Acknowledgment, Data}
 
--- what a row describes: an item under its published name, or bits that are fixed
+-- what a row describes: bits that are fixed, or an item under its published name (`opens` is open, a reserved word here;
+-- `body` is data or detail)
 pub data Item : Type 0 where
   identifier reserved length cookie shift increment sessionID partial opens close eof ackRequired : Item
-  magic version initialRation : Item
+  body magic version initialRation : Item
 
+-- a number for each item, by which items are compared
 abbrev number : Item → ℕ
 number identifier = 0
 number reserved = 1
@@ -28,9 +30,10 @@ number opens = 8
 number close = 9
 number eof = 10
 number ackRequired = 11
-number magic = 12
-number version = 13
-number initialRation = 14
+number body = 12
+number magic = 13
+number version = 14
+number initialRation = 15
 
 pub record Row : Type 0 where
   pub offset : ℕ
@@ -41,35 +44,39 @@ abbrev pub row : ℕ → List Bit → Item → Row
 row at p i = record { offset = at; pattern = p; item = i }
 
 -- bytes 2 and 3, one item
-abbrev wide : List Bit → Item → List Row
-wide p i = row 2 p i ∷ row 3 p i ∷ []
+abbrev wide : List Bit → Item → List Row → List Row
+wide p i rows = row 2 p i ∷ row 3 p i ∷ rows
+
+-- a length in bytes 2 and 3, and from byte 4 on that many bytes
+abbrev lengthAndBody : List Row
+lengthAndBody = wide (bits x x x x x x x x) length (row 4 [] body ∷ [])
 
 -- a session identifier stands in a byte with its top bit reserved
 abbrev session : List Row → List Row
 session rows = row 1 (bits O - - - - - - -) reserved ∷ row 1 (bits - x x x x x x x) sessionID ∷ rows
 
 -- the layout of a message that pertains to the connection as a whole
-abbrev whole : List Bit → Item → List Row
-whole first i = row 0 first identifier ∷ row 1 (bits O O O O O O O O) reserved ∷ wide (bits x x x x x x x x) i
+abbrev whole : List Bit → List Row → List Row
+whole first rows = row 0 first identifier ∷ row 1 (bits O O O O O O O O) reserved ∷ rows
 
 abbrev pub layout : Kind → List Row
-layout kind.NoOperation = whole (bits O O O O O O O O) length
-layout kind.Shutdown = whole (bits O O O O O O I O) length
-layout kind.Ping = whole (bits O O O O O I O O) cookie
-layout kind.PingAck = whole (bits O O O O O I I O) cookie
-layout kind.Error = whole (bits O O O O I O O O) length
+layout kind.NoOperation = whole (bits O O O O O O O O) lengthAndBody
+layout kind.Shutdown = whole (bits O O O O O O I O) lengthAndBody
+layout kind.Ping = whole (bits O O O O O I O O) (wide (bits x x x x x x x x) cookie [])
+layout kind.PingAck = whole (bits O O O O O I I O) (wide (bits x x x x x x x x) cookie [])
+layout kind.Error = whole (bits O O O O I O O O) lengthAndBody
 layout kind.IncrementRation =
     row 0 (bits O O O I - - - -) identifier
     ∷ row 0 (bits - - - - x x x -) shift
     ∷ row 0 (bits - - - - - - - O) reserved
-    ∷ session (wide (bits x x x x x x x x) increment)
+    ∷ session (wide (bits x x x x x x x x) increment [])
 layout kind.Abort =
     row 0 (bits O O I O O O - -) identifier
     ∷ row 0 (bits - - - - - - x -) partial
     ∷ row 0 (bits - - - - - - - O) reserved
-    ∷ session (wide (bits x x x x x x x x) length)
-layout kind.Close = row 0 (bits O O I I O O O O) identifier ∷ session (wide (bits O O O O O O O O) reserved)
-layout kind.Acknowledgment = row 0 (bits O I O O O O O O) identifier ∷ session (wide (bits O O O O O O O O) reserved)
+    ∷ session lengthAndBody
+layout kind.Close = row 0 (bits O O I I O O O O) identifier ∷ session (wide (bits O O O O O O O O) reserved [])
+layout kind.Acknowledgment = row 0 (bits O I O O O O O O) identifier ∷ session (wide (bits O O O O O O O O) reserved [])
 layout kind.Data =
     row 0 (bits I O O - - - - -) identifier
     ∷ row 0 (bits - - - x - - - -) opens
@@ -77,7 +84,7 @@ layout kind.Data =
     ∷ row 0 (bits - - - - - x - -) eof
     ∷ row 0 (bits - - - - - - x -) ackRequired
     ∷ row 0 (bits - - - - - - - O) reserved
-    ∷ session (wide (bits x x x x x x x x) length)
+    ∷ session lengthAndBody
 
 -- each bit that a row fixes is as the row says
 abbrev pub fixed : List Row → List ℕ → Bool
@@ -89,6 +96,11 @@ abbrev pub digits : Item → List Row → List ℕ → ℕ → ℕ
 digits i [] header n = n
 digits i (r ∷ rs) header n =
     digits i rs header (cond (eqb (number i) (number (r .item))) (withBits (r .pattern) 128 (getD header (r .offset) 0) n) n)
+
+-- whether a layout has a row for the item
+abbrev pub has : Item → List Row → Bool
+has i [] = false
+has i (r ∷ rs) = eqb (number i) (number (r .item)) || has i rs
 
 -- the number that an item of a message holds
 abbrev pub item : Kind → Item → List ℕ → ℕ

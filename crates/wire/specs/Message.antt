@@ -1,4 +1,4 @@
--- Which message the bytes say, which bytes a message has, and which messages a sender may send.
+-- Which messages a sender may send, which message stands in bytes, and which bytes a message has.
 use Prim.Native.Nat.{ℕ, _+_, _*_, _/_, _%_, _^_}
 use mathlib.Core.List.{List, [], _∷_, _++_}
 use mathlib.Core.Bool.{Bool, true, false, not, _&&_, _||_}
@@ -69,9 +69,9 @@ unfoldable pub typed : Role → List ℕ → Named → Result Message
 typed from header (Known k) = pick (fixed (layout k) header) (allowed from k (message k header)) (violation 21)
 typed from header Unknown = violation 20
 
--- what the four header bytes say
-unfoldable pub readHeader : Role → List ℕ → Result Message
-readHeader from header = typed from header (kindOf (getD header 0 0))
+-- the message of exactly four header bytes
+unfoldable pub parseHeader : Role → List ℕ → Result Message
+parseHeader from header = typed from header (kindOf (getD header 0 0))
 
 -- how many bytes follow the header
 abbrev pub bodyLength : Message → ℕ
@@ -94,9 +94,10 @@ withBody have (violation n) = violation n
 
 -- what stands first in the input: 10 for fewer than 4 bytes, then what the header says, then 10 again
 unfoldable pub readMessage : Role → List ℕ → Result Message
-readMessage from s = pick (ltb (length s) 4) (refused 10) (withBody (length s) (readHeader from (take 4 s)))
+readMessage from s = pick (ltb (length s) 4) (refused 10) (withBody (length s) (parseHeader from (take 4 s)))
 
--- the increment shifted left by twice the shift, a 3-bit integer
+-- the increment shifted left by twice the shift, which is a 3-bit integer; of a larger one, which no reader gives, the low
+-- three bits count, and that is the program's choice
 unfoldable pub effectiveIncrement : ℕ → ℕ → ℕ
 effectiveIncrement shift increment = increment * 2 ^ (2 * (shift % 8))
 
@@ -172,7 +173,7 @@ shiftOf (Close i) = 0
 shiftOf (Acknowledgment i) = 0
 shiftOf (Data o c e a i n) = 0
 
--- the reader gives the message back, with this many bytes after the header
+-- the reader gives the message back, with this many bytes after the header; its number has 16 bits by its type
 unfoldable pub writable : Role → Message → ℕ → Bool
 writable from m len =
     ltb (shiftOf m) 8 && ltb (secondByte m) 128 && maySend from (kindOfMessage m) && flagsAllowed from m

@@ -4,11 +4,11 @@ use mathlib.Core.List.{List, [], _∷_}
 use mathlib.Core.Bool.{Bool, true, _&&_}
 use lib.Dec.{eqb}
 
--- a letter of a pattern: a bit that is 0, one that is 1, one that may be either, one that another row describes
+-- a symbol of a pattern: a bit that is 0, one that is 1, one that may be either, one that another row describes
 pub data Bit : Type 0 where
   O I x - : Bit
 
--- eight letters, high bit first
+-- eight symbols, high bit first
 abbrev pub bits : Bit → Bit → Bit → Bit → Bit → Bit → Bit → Bit → List Bit
 bits a b c d e f g h = a ∷ b ∷ c ∷ d ∷ e ∷ f ∷ g ∷ h ∷ []
 
@@ -18,7 +18,7 @@ fitsBit I d = eqb d 1
 fitsBit x d = true
 fitsBit - d = true
 
--- the byte fits the pattern, whose first letter stands for the bit of weight w
+-- the byte fits the pattern, whose first symbol stands for the bit of weight w
 abbrev pub fits : List Bit → ℕ → ℕ → Bool
 fits [] w byte = true
 fits (p ∷ ps) w byte = fitsBit p (byte / w % 2) && fits ps (w / 2) byte

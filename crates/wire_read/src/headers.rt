@@ -7,7 +7,7 @@ ghost use mathlib.Core.Path.{_≡_};
 ghost use Prim.Native.Nat.{ℕ};
 ghost use mathlib.Core.List.{_∷_, []};
 ghost use Rattle.wire.specs.Pattern.{x, bits, withBits};
-ghost use Rattle.wire.specs.Connection.{connectionLayout, readHeaderNumber, readConnectionHeader};
+ghost use Rattle.wire.specs.Connection.{connectionLayout, parseConnectionHeader, readConnectionHeader};
 ghost use Rattle.wire.specs.Layout.{fixed};
 ghost use Rattle.wire_read.specs.Answer.{headerParsedAs, headerReadAs};
 
@@ -29,7 +29,7 @@ fn number(high: u8, low: u8) -> u16
 
 // What the eight bytes of a connection header say.
 pub fn parse_connection_header(bytes: [u8; 8]) -> ParsedHeader
-    ensures { λ r. ⌜ headerParsedAs r ≡ readHeaderNumber bytes ⌝ }
+    ensures { λ r. ⌜ headerParsedAs r ≡ parseConnectionHeader bytes ⌝ }
 {
     let n = number(bytes[5], bytes[6]);
     if is_header(bytes[0], bytes[1], bytes[2], bytes[3], bytes[4], bytes[7]) {

@@ -6,7 +6,7 @@ ghost use Prim.Native.Nat.{_/_};
 ghost use Rattle.wire.specs.FirstByte.{kindOf};
 
 // The type that a first byte names.
-pub fn kind_of(first: u8) -> Named
+pub(crate) fn kind_of(first: u8) -> Named
     ensures { λ r. ⌜ r ≡ kindOf first ⌝ }
 {
     if first % 2 == 1 {

@@ -18,7 +18,7 @@ ghost use lib.Dec.{ltb, eqb};
 ghost use Rattle.wire.specs.declared.Named.the-variants.{Known};
 ghost use Rattle.wire.specs.FirstByte.{kindOf};
 ghost use Rattle.wire.specs.Layout.{layout, fixed, message};
-ghost use Rattle.wire.specs.Message.{allowed, readHeader, withBody, readMessage};
+ghost use Rattle.wire.specs.Message.{allowed, parseHeader, withBody, readMessage};
 ghost use Rattle.wire_read.specs.Answer.{parsedAs, readAs};
 
 // Whether byte 1 is a session number and bytes 2 and 3 are 0.
@@ -107,7 +107,7 @@ fn if_allowed(from: Role, kind: Kind, m: Message) -> Parsed
 
 // What the four header bytes of a message from a sender say.
 pub fn parse_header(from: Role, first: u8, second: u8, third: u8, fourth: u8) -> Parsed
-    ensures { λ r. ⌜ parsedAs r ≡ readHeader from (first ∷ second ∷ third ∷ fourth ∷ []) ⌝ }
+    ensures { λ r. ⌜ parsedAs r ≡ parseHeader from (first ∷ second ∷ third ∷ fourth ∷ []) ⌝ }
 {
     let named = kind_of(first);
     match named {

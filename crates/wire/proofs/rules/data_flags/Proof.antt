@@ -1,4 +1,4 @@
--- `data_flags` meets its contract, by what the rule says to each sender.
+-- `data_flags` meets its contract, by what the rule reads to each sender.
 use Rattle.wire.proofs.Flags.{client-flags, server-eof-flags, server-flags}
 use borrow.Author.Needs.{needs}
 use Rattle.wire.proofs.rules.data_flags.Statement.{statement}
