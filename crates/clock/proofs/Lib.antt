@@ -1,0 +1,7 @@
+-- The laws of the ping clock.
+pub mod Answers
+pub mod Cases
+pub mod Range
+pub mod State
+pub mod Between
+pub mod Samples
