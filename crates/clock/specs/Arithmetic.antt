@@ -6,7 +6,7 @@ use lib.Ieee.{Float, binary64, add, sub, mul, div, lt, le, ofInt}
 
 infixl 6 _⊕_ _⊖_
 infixl 7 _⊗_ _⊘_
--- sum, difference, product and quotient, rounded once to the nearest number, at a tie to the even one
+-- sum, difference, product and quotient, rounded once: to the nearest number, at a tie to the even one
 abbrev pub _⊕_ : Float → Float → Float
 x ⊕ y = add binary64 x y
 
@@ -19,11 +19,10 @@ x ⊗ y = mul binary64 x y
 abbrev pub _⊘_ : Float → Float → Float
 x ⊘ y = div binary64 x y
 
--- a whole number
 unfoldable pub whole : ℕ → Float
 whole n = ofInt binary64 (pos n)
 
--- 0.75, 0.25, 0.875 and 0.125
+-- 0.75, 0.25, 0.875 and 0.125, which binary64 holds exactly
 unfoldable pub 0·75 : Float
 0·75 = whole 3 ⊘ whole 4
 
@@ -46,7 +45,7 @@ larger x y = cond (lt x y) y x
 abbrev pub smaller : Float → Float → Float
 smaller x y = cond (lt y x) y x
 
--- the smaller from the larger
+-- the smaller subtracted from the larger
 abbrev pub distance : Float → Float → Float
 distance x y = cond (lt x y) (y ⊖ x) (x ⊖ y)
 

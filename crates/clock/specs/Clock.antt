@@ -1,4 +1,4 @@
--- The ping clock: whether a sample has come, the smoothed time and the deviation, in milliseconds, and what a sample makes of them.
+-- The ping clock and what a sample R makes of it. The smoothed time and the deviation are in milliseconds.
 use Prim.Native.Nat.{ℕ}
 use mathlib.Core.Bool.{Bool, true, false, _&&_}
 use lib.Dec.{leb}
@@ -17,11 +17,11 @@ use Rattle.clock.specs.Arithmetic.{_⊕_, _⊗_, _⊘_, whole, 0·75, 0�
 unfoldable pub newClock : Clock
 newClock = record { sampled = false; smoothed = whole 0; deviation = whole 0 }
 
--- First: smoothed = R, deviation = R / 2.
+-- first: smoothed = R, deviation = R / 2
 unfoldable pub first : Float → Clock
 first R = record { sampled = true; smoothed = R; deviation = R ⊘ whole 2 }
 
--- Later: deviation = 0.75 * deviation + 0.25 * distance(smoothed, R), then smoothed = 0.875 * smoothed + 0.125 * R.
+-- later: deviation = 0.75 * deviation + 0.25 * distance(smoothed, R), then smoothed = 0.875 * smoothed + 0.125 * R
 unfoldable pub later : Clock → Float → Clock
 later clock R = record {
   sampled = true;
@@ -32,25 +32,21 @@ later clock R = record {
 unfoldable pub updated : Clock → Float → Clock
 updated clock R = pick (clock .sampled) (later clock R) (first R)
 
--- a good state, and a good sample
+-- a state with NaN or a number outside 0 to 60,000 is bad, and so is a sample outside
 unfoldable pub goodClock : Clock → Bool
 goodClock clock = within 0 60_000 (clock .smoothed) && within 0 60_000 (clock .deviation)
 
 abbrev pub goodSample : ℕ → Bool
 goodSample R = leb R 60_000
 
--- refusal 12
-abbrev pub badValue : ℕ
-badValue = refusalNumber refusal.BadValue
-
--- what the sampler answers, and the clock afterwards: a refusal leaves it as it was
+-- what the sampler answers, and the clock afterwards: a refusal leaves the clock as it was
 unfoldable pub sampleRule : Clock → ℕ → Result Unit × Clock
-sampleRule clock R = pick (goodClock clock && goodSample R) (ok tt, updated clock (whole R)) (refused badValue, clock)
+sampleRule clock R = pick (goodClock clock && goodSample R) (ok tt, updated clock (whole R)) (refused 12, clock)
 
--- the answer's cases in the paper's terms
+-- each case of the answer in the paper's terms
 abbrev pub outcomeResult : Outcome → Result Unit
 outcomeResult Taken = ok tt
-outcomeResult BadValue = refused badValue
+outcomeResult BadValue = refused (refusalNumber refusal.BadValue)
 
 abbrev pub updateResult : Update → Result Unit × Clock
 updateResult update = (outcomeResult (update .outcome), update .clock)

@@ -2,4 +2,4 @@
 pub mod Arithmetic
 pub mod Clock
 pub mod Limit
-pub mod Samples
+pub mod Claims

@@ -1,15 +1,17 @@
--- The limit for a ping, in milliseconds: its setting, and what a clock gives under it.
+-- The limit for a ping, in milliseconds, that a clock gives under a setting.
 use mathlib.Core.Bool.{Bool, _&&_}
 use lib.Ieee.{Float, le}
 use Rattle.laws.specs.Pick.{pick}
 use Rattle.laws.specs.Result.{Result, ok, refused}
+use Rattle.refusal.specs.Number.{refusalNumber}
+use Rattle.refusal.specs.declared.Refusal.the-variants as refusal
 use Rattle.clock.specs.declared.Clock.{Clock}
 use Rattle.clock.specs.declared.Setting.{Setting}
 use Rattle.clock.specs.declared.Setting.the-variants.{Fixed, Measured}
 use Rattle.clock.specs.declared.Limit.{Limit}
 use Rattle.clock.specs.declared.Limit.the-variants.{Milliseconds, BadValue}
 use Rattle.clock.specs.Arithmetic.{_⊕_, _⊗_, whole, within, larger, held}
-use Rattle.clock.specs.Clock.{goodClock, badValue}
+use Rattle.clock.specs.Clock.{goodClock}
 
 -- every number from 1 to 60,000, floor not above ceiling
 unfoldable pub goodSetting : Setting → Bool
@@ -25,10 +27,11 @@ abbrev pub limitUnder : Setting → Clock → Float
 limitUnder (Fixed limit) clock = limit
 limitUnder (Measured floor ceiling) clock = held floor ceiling (measured clock)
 
+-- state and setting are judged whatever the setting is, and whether or not a sample has come
 unfoldable pub limitRule : Clock → Setting → Result Float
-limitRule clock setting = pick (goodClock clock && goodSetting setting) (ok (limitUnder setting clock)) (refused badValue)
+limitRule clock setting = pick (goodClock clock && goodSetting setting) (ok (limitUnder setting clock)) (refused 12)
 
--- the answer's cases in the paper's terms
+-- each case of the answer in the paper's terms
 abbrev pub limitResult : Limit → Result Float
 limitResult (Milliseconds limit) = ok limit
-limitResult BadValue = refused badValue
+limitResult BadValue = refused (refusalNumber refusal.BadValue)

@@ -2,9 +2,9 @@
 ghost use mathlib.Core.Path.{_≡_};
 ghost use mathlib.Core.Bool.{_&&_};
 ghost use lib.Ieee.{le};
-ghost use Rattle.clock.specs.Arithmetic as Arithmetic;
-ghost use Rattle.clock.specs.Clock as Rule;
-ghost use Rattle.clock.specs.Limit as Limits;
+ghost use Rattle.clock.specs.Arithmetic.{larger, smaller, distance, held};
+ghost use Rattle.clock.specs.Clock.{newClock, first, later, updated, goodClock, sampleRule, outcomeResult, updateResult};
+ghost use Rattle.clock.specs.Limit.{goodSetting, measured, limitUnder, limitRule, limitResult};
 
 // The smoothed time and the deviation are in milliseconds.
 pub struct Clock {
@@ -50,25 +50,25 @@ fn within(low: f64, high: f64, x: f64) -> bool
 }
 
 fn larger(x: f64, y: f64) -> f64
-    ensures { λ r. ⌜ r ≡ Arithmetic.larger x y ⌝ }
+    ensures { λ r. ⌜ r ≡ larger x y ⌝ }
 {
     if x < y { y } else { x }
 }
 
 fn smaller(x: f64, y: f64) -> f64
-    ensures { λ r. ⌜ r ≡ Arithmetic.smaller x y ⌝ }
+    ensures { λ r. ⌜ r ≡ smaller x y ⌝ }
 {
     if y < x { y } else { x }
 }
 
 fn distance(x: f64, y: f64) -> f64
-    ensures { λ r. ⌜ r ≡ Arithmetic.distance x y ⌝ }
+    ensures { λ r. ⌜ r ≡ distance x y ⌝ }
 {
     if x < y { y - x } else { x - y }
 }
 
 fn held(floor: f64, ceiling: f64, x: f64) -> f64
-    ensures { λ r. ⌜ r ≡ Arithmetic.held floor ceiling x ⌝ }
+    ensures { λ r. ⌜ r ≡ held floor ceiling x ⌝ }
 {
     smaller(ceiling, larger(floor, x))
 }
@@ -76,7 +76,7 @@ fn held(floor: f64, ceiling: f64, x: f64) -> f64
 impl Setting {
     // Whether each number is from 1 to 60,000 and the floor is not above the ceiling.
     fn is_good(self) -> bool
-        ensures { λ r. ⌜ r ≡ Limits.goodSetting self ⌝ }
+        ensures { λ r. ⌜ r ≡ goodSetting self ⌝ }
     {
         match self {
             Setting::Fixed { limit } => within(1.0, 60000.0, limit),
@@ -93,7 +93,7 @@ impl Setting {
 impl Clock {
     // A clock before any sample.
     pub fn new() -> Clock
-        ensures { λ r. ⌜ r ≡ Rule.newClock ⌝ }
+        ensures { λ r. ⌜ r ≡ newClock ⌝ }
     {
         Clock {
             sampled: false,
@@ -104,7 +104,7 @@ impl Clock {
 
     // Whether the smoothed time and the deviation are from 0 to 60,000.
     fn is_good(self) -> bool
-        ensures { λ r. ⌜ r ≡ Rule.goodClock self ⌝ }
+        ensures { λ r. ⌜ r ≡ goodClock self ⌝ }
     {
         let smoothed = within(0.0, 60000.0, self.smoothed);
         let deviation = within(0.0, 60000.0, self.deviation);
@@ -113,7 +113,7 @@ impl Clock {
 
     // The clock after its first sample.
     fn first(r: f64) -> Clock
-        ensures { λ c. ⌜ c ≡ Rule.first r ⌝ }
+        ensures { λ c. ⌜ c ≡ first r ⌝ }
     {
         Clock {
             sampled: true,
@@ -124,7 +124,7 @@ impl Clock {
 
     // The clock after a later sample.
     fn later(mut self, r: f64) -> Clock
-        ensures { λ c. ⌜ c ≡ Rule.later self r ⌝ }
+        ensures { λ c. ⌜ c ≡ later self r ⌝ }
     {
         self.deviation = 0.75 * self.deviation + 0.25 * distance(self.smoothed, r);
         self.smoothed = 0.875 * self.smoothed + 0.125 * r;
@@ -133,7 +133,7 @@ impl Clock {
     }
 
     fn updated(self, r: f64) -> Clock
-        ensures { λ c. ⌜ c ≡ Rule.updated self r ⌝ }
+        ensures { λ c. ⌜ c ≡ updated self r ⌝ }
     {
         if self.sampled {
             self.later(r)
@@ -144,7 +144,7 @@ impl Clock {
 
     // The clock after a sample of so many milliseconds.
     pub fn update(self, sample: u32) -> Update
-        ensures { λ u. ⌜ Rule.updateResult u ≡ Rule.sampleRule self sample ⌝ }
+        ensures { λ u. ⌜ updateResult u ≡ sampleRule self sample ⌝ }
     {
         let good = self.is_good();
         let in_range = sample <= 60000;
@@ -163,7 +163,7 @@ impl Clock {
 
     // What the samples give before it is held: 1000 before any sample.
     fn measured(self) -> f64
-        ensures { λ r. ⌜ r ≡ Limits.measured self ⌝ }
+        ensures { λ r. ⌜ r ≡ measured self ⌝ }
     {
         if self.sampled {
             self.smoothed + larger(1.0, 4.0 * self.deviation)
@@ -174,7 +174,7 @@ impl Clock {
 
     // The limit under a setting, where both are good.
     fn limit_under(self, setting: Setting) -> f64
-        ensures { λ r. ⌜ r ≡ Limits.limitUnder setting self ⌝ }
+        ensures { λ r. ⌜ r ≡ limitUnder setting self ⌝ }
     {
         match setting {
             Setting::Fixed { limit } => limit,
@@ -184,7 +184,7 @@ impl Clock {
 
     // The limit for a ping.
     pub fn limit(self, setting: Setting) -> Limit
-        ensures { λ r. ⌜ Limits.limitResult r ≡ Limits.limitRule self setting ⌝ }
+        ensures { λ r. ⌜ limitResult r ≡ limitRule self setting ⌝ }
     {
         let good_clock = self.is_good();
         let good_setting = setting.is_good();
@@ -198,7 +198,7 @@ impl Clock {
 
 // The sampler: the clock is lent, and changed in place.
 pub fn take_sample(clock: &mut Clock, sample: u32) -> Outcome
-    ensures { λ r. ⌜ (Rule.outcomeResult r, now (clock .exit)) ≡ Rule.sampleRule (now (clock .entry)) sample ⌝ }
+    ensures { λ r. ⌜ (outcomeResult r, now (clock .exit)) ≡ sampleRule (now (clock .entry)) sample ⌝ }
 {
     let update = clock.update(sample);
     *clock = update.clock;
@@ -207,7 +207,7 @@ pub fn take_sample(clock: &mut Clock, sample: u32) -> Outcome
 
 // The sampler on a clock that is passed and returned.
 pub fn with_sample(clock: Clock, sample: u32) -> Update
-    ensures { λ u. ⌜ Rule.updateResult u ≡ Rule.sampleRule clock sample ⌝ }
+    ensures { λ u. ⌜ updateResult u ≡ sampleRule clock sample ⌝ }
 {
     let mut lent = clock;
     let outcome = take_sample(&mut lent, sample);
