@@ -1,13 +1,13 @@
 -- What is held between a floor and a ceiling lies between them, whatever it is, NaN too; from the definition of `held`.
-use mathlib.Core.Path.{_≡_, refl, sym, _∙_, subst}
+use mathlib.Core.Path.{_≡_, refl, sym, _∙_}
 use mathlib.Core.Bool.{Bool, true, false, _||_, cond, false≢true}
 use lib.Ieee.{Float, nan, inf, fin, lt, le, eq, ne}
 use lib.Ieee.Compare.{differs-from-itself}
-use Rattle.clock.specs.Arithmetic.{larger, smaller, held}
+use Rattle.clock.specs.Arithmetic.{larger, held}
 
-below-is-le : (x y : Float) → lt x y ≡ true → le x y ≡ true
+lt→le : (x y : Float) → lt x y ≡ true → le x y ≡ true
 unfolding le
-below-is-le x y e = rw e
+lt→le x y e = rw e
 
 -- a value that is not NaN is at most itself
 le-itself : (x : Float) → (x ≡ nan → ⊥) → le x x ≡ true
@@ -40,7 +40,8 @@ module _ (floor ceiling : Float) (order : le floor ceiling ≡ true) where
   pub held-between : (x : Float) → (le floor (held floor ceiling x) ≡ true) × (le (held floor ceiling x) ceiling ≡ true)
   held-between x = go (lt floor x) (lt (larger floor x) ceiling) refl refl
     where
-      go : (a b : Bool) → lt floor x ≡ a → lt (cond a x floor) ceiling ≡ b → (le floor (cond b (cond a x floor) ceiling) ≡ true) × (le (cond b (cond a x floor) ceiling) ceiling ≡ true)
-      go true true p q = (below-is-le floor x p, below-is-le x ceiling q)
+      go : (a b : Bool) → lt floor x ≡ a → lt (cond a x floor) ceiling ≡ b
+          → (le floor (cond b (cond a x floor) ceiling) ≡ true) × (le (cond b (cond a x floor) ceiling) ceiling ≡ true)
+      go true true p q = (lt→le floor x p, lt→le x ceiling q)
       go false true p q = (at-floor, order)
       go a false p q = (order, at-ceiling)
