@@ -4,10 +4,9 @@ use Prim.Native.Nat.{ℕ}
 use native.Mathlib.Omega.{arith}
 use Rattle.clock.specs.declared.Outcome.{Outcome}
 use Rattle.clock.specs.declared.Outcome.the-variants.{Taken, BadValue}
-use Rattle.clock.specs.declared.Update.{Update}
 use Rattle.clock.specs.declared.Limit.{Limit}
 use Rattle.clock.specs.declared.Limit.the-variants.{Milliseconds, BadValue as NoLimit}
-use Rattle.clock.specs.Clock.{outcomeResult, updateResult}
+use Rattle.clock.specs.Clock.{outcomeResult}
 use Rattle.clock.specs.Limit.{limitResult}
 
 pub same-outcome : (a b : Outcome) → outcomeResult a ≡ outcomeResult b → a ≡ b

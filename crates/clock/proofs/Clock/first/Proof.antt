@@ -1,14 +1,11 @@
+-- `Clock::first` meets its contract: its operation is that of the definition.
 use mathlib.Core.Path.{refl}
 use lib.Ieee.{ofBits, ofInt}
 use Rattle.clock.specs.Arithmetic.{whole}
 use Rattle.clock.specs.Clock.{first}
-use borrow.Author.Needs.{needs}
 use Rattle.clock.proofs.Clock.first.Statement.{statement}
 use Rattle.clock.proofs.Clock.first.Tie as tie
-use Rattle.clock.proofs.Clock.first.Reads as reads
-use Rattle.clock.proofs.Clock.first.Lts as lts
 
--- src/lib.rt:115:5
 returns : tie.Need-returns
 unfolding ofBits ofInt whole first
 returns c = refl
