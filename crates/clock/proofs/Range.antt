@@ -179,8 +179,8 @@ distance-up-to n exact (up-to {s} {m} {e} f h) (up-to {s = t} {m = l} {e = d} g 
     let b = l * up d * down e in
     let p = zero-over s m (up e) (down d) f in
     let q = zero-over t l (up d) (down e) g in
-    either-up-to n (below s a t b)
-    (λ w. difference-up-to n exact t s b a (down d * down e) (mul-pos (down-pos d) (down-pos e)) q p
-    (below-le s t a b p q w) (over n (l * up d) (down d) (down e) i))
+    either-up-to n (below t b s a)
     (λ w. difference-up-to n exact s t a b (down e * down d) (mul-pos (down-pos e) (down-pos d)) p q
-    (not-below-le s t a b p q w) (over n (m * up e) (down e) (down d) h))
+    (below-le t s b a q p w) (over n (m * up e) (down e) (down d) h))
+    (λ w. difference-up-to n exact t s b a (down d * down e) (mul-pos (down-pos d) (down-pos e)) q p
+    (not-below-le t s b a q p w) (over n (l * up d) (down d) (down e) i))

@@ -33,7 +33,7 @@ pub enum Setting {
     Measured { floor: f64, ceiling: f64 },
 }
 
-// What the question for a limit is answered with.
+// What `limit` answers.
 pub enum Limit {
     Milliseconds(f64),
     // The clock's state or the setting is out of its range.
@@ -61,12 +61,14 @@ fn smaller(x: f64, y: f64) -> f64
     if y < x { y } else { x }
 }
 
+// The smaller subtracted from the larger.
 fn distance(x: f64, y: f64) -> f64
     ensures { λ r. ⌜ r ≡ distance x y ⌝ }
 {
-    if x < y { y - x } else { x - y }
+    if y < x { x - y } else { y - x }
 }
 
+// x held between a floor and a ceiling.
 fn held(floor: f64, ceiling: f64, x: f64) -> f64
     ensures { λ r. ⌜ r ≡ held floor ceiling x ⌝ }
 {
@@ -122,7 +124,7 @@ impl Clock {
         }
     }
 
-    // The clock after a later sample.
+    // The clock after a later sample. The deviation comes first: it reads the smoothed time as it stood.
     fn later(mut self, r: f64) -> Clock
         ensures { λ c. ⌜ c ≡ later self r ⌝ }
     {
@@ -132,6 +134,7 @@ impl Clock {
         self
     }
 
+    // The clock after a sample of r milliseconds, first or later.
     fn updated(self, r: f64) -> Clock
         ensures { λ c. ⌜ c ≡ updated self r ⌝ }
     {
@@ -142,7 +145,7 @@ impl Clock {
         }
     }
 
-    // The clock after a sample of so many milliseconds.
+    // The by-value update: what a sample, in milliseconds, makes of the clock.
     pub fn update(self, sample: u32) -> Update
         ensures { λ u. ⌜ updateResult u ≡ sampleRule self sample ⌝ }
     {
@@ -161,7 +164,7 @@ impl Clock {
         }
     }
 
-    // What the samples give before it is held: 1000 before any sample.
+    // The measured limit before it is held: 1000 before any sample.
     fn measured(self) -> f64
         ensures { λ r. ⌜ r ≡ measured self ⌝ }
     {
@@ -205,7 +208,7 @@ pub fn take_sample(clock: &mut Clock, sample: u32) -> Outcome
     update.outcome
 }
 
-// The sampler on a clock that is passed and returned.
+// The sampler on a clock that is passed and returned, for a caller that lends nothing.
 pub fn with_sample(clock: Clock, sample: u32) -> Update
     ensures { λ u. ⌜ updateResult u ≡ sampleRule clock sample ⌝ }
 {
