@@ -26,7 +26,12 @@ fn write_size(size: f64) {
     text(b"large");
 }
 
-// Writes a number: its value, and the 64 bits that hold it.
+// The 64 bits that hold a number; 0 for NaN, which has no bits of its own.
+fn bits(x: f64) -> u64 {
+    if x == x { f64::to_bits(x) } else { 0 }
+}
+
+// Writes a number: its value, and its bits.
 fn write_number(x: f64) {
     if x != x {
         text(b"NaN");
@@ -39,7 +44,7 @@ fn write_number(x: f64) {
         write_size(x);
     }
     text(b" (");
-    io::print_hex(STDOUT_FILENO, f64::to_bits(x), 16);
+    io::print_hex(STDOUT_FILENO, bits(x), 16);
     text(b")");
 }
 
