@@ -40,108 +40,108 @@ def unsampled(smoothed, deviation):
 NEW = unsampled(0.0, 0.0)
 
 
-def sample(what, state, r):
+def text(state):
+    return f"{'sampled' if state[0] else 'unsampled'} {number(state[1])} {number(state[2])}"
+
+
+def sample(state, r):
     if not (good_state(state) and 0 <= r <= 60000):
-        answer = "refused 12"
+        answer, after = "refused 12", state
+    elif state[0]:
+        deviation = 0.75 * state[2] + 0.25 * abs(state[1] - r)
+        smoothed = 0.875 * state[1] + 0.125 * r
+        answer, after = "taken", (True, smoothed, deviation)
     else:
-        answer = "taken"
-        had, smoothed, deviation = state
-        if had:
-            deviation = 0.75 * deviation + 0.25 * abs(smoothed - r)
-            smoothed = 0.875 * smoothed + 0.125 * r
-        else:
-            smoothed, deviation = float(r), r / 2
-        state = (True, smoothed, deviation)
-    came = "sampled" if state[0] else "no sample"
-    print(f"{what}: {answer}: {came}, smoothed {number(state[1])}, deviation {number(state[2])}")
-    return state
+        answer, after = "taken", (True, float(r), r / 2)
+    print(f"{text(state)}, sample {r}: {answer}, {text(after)}")
+    return after
 
 
-def limit(what, state, good_setting, value):
-    print(f"{what}: {number(value) if good_state(state) and good_setting else 'refused 12'}")
+def limit(state, setting, good_setting, value):
+    answer = number(value) if good_state(state) and good_setting else "refused 12"
+    print(f"{text(state)}, {setting}: {answer}")
 
 
-def fixed(what, state, x):
-    limit(what, state, in_range(1, x), x)
+def fixed(state, x):
+    limit(state, f"fixed {number(x)}", in_range(1, x), x)
 
 
-def measured(what, state, floor, ceiling):
-    had, smoothed, deviation = state
-    value = smoothed + max(1.0, 4 * deviation) if had else 1000.0
+def measured(state, floor, ceiling):
+    value = state[1] + max(1.0, 4 * state[2]) if state[0] else 1000.0
     good = in_range(1, floor) and in_range(1, ceiling) and floor <= ceiling
-    limit(what, state, good, min(max(value, floor), ceiling))
+    limit(state, f"from {number(floor)} to {number(ceiling)}", good, min(max(value, floor), ceiling))
 
 
-# case 7
-clock = sample("case 7, sample 100", NEW, 100)
-measured("case 7, limit", clock, 1.0, 60000.0)
-clock = sample("case 7, sample 100", clock, 100)
-measured("case 7, limit", clock, 1.0, 60000.0)
-clock = sample("case 7, sample 180", clock, 180)
-measured("case 7, limit", clock, 1.0, 60000.0)
+print("case 7")
+clock = sample(NEW, 100)
+measured(clock, 1.0, 60000.0)
+clock = sample(clock, 100)
+measured(clock, 1.0, 60000.0)
+clock = sample(clock, 180)
+measured(clock, 1.0, 60000.0)
 
-# first samples
-sample("first sample 0", NEW, 0)
-sample("first sample 1", NEW, 1)
-sample("first sample 60000", NEW, 60000)
-sample("first sample 60001", NEW, 60001)
-sample("first sample 4294967295", NEW, 4294967295)
-sample("first sample 7 at 60000 and 60000", unsampled(60000.0, 60000.0), 7)
+print("first samples")
+sample(NEW, 0)
+sample(NEW, 1)
+sample(NEW, 60000)
+sample(NEW, 60001)
+sample(NEW, 4294967295)
+sample(unsampled(60000.0, 60000.0), 7)
 
-# later samples
-sample("sample 0 at 60000 and 60000", sampled(60000.0, 60000.0), 0)
-sample("sample 60000 at 60000 and 60000", sampled(60000.0, 60000.0), 60000)
-sample("sample 60000 at 0 and 0", sampled(0.0, 0.0), 60000)
-sample("sample 60001 at 100 and 50", sampled(100.0, 50.0), 60001)
-sample("sample 7 at 0.1 and 0.3", sampled(0.1, 0.3), 7)
-sample("sample 350 at 333.3333333333333 and 41.7", sampled(333.3333333333333, 41.7), 350)
-sample("sample 0 at -0 and -0", sampled(-0.0, -0.0), 0)
-sample("sample 0 at 5e-324 and 5e-324", sampled(5e-324, 5e-324), 0)
-clock = sample("run, sample 17", NEW, 17)
-clock = sample("run, sample 23", clock, 23)
-clock = sample("run, sample 1999", clock, 1999)
-clock = sample("run, sample 60001", clock, 60001)
-clock = sample("run, sample 3", clock, 3)
-measured("run, limit", clock, 1.0, 60000.0)
+print("later samples")
+sample(sampled(60000.0, 60000.0), 0)
+sample(sampled(60000.0, 60000.0), 60000)
+sample(sampled(0.0, 0.0), 60000)
+sample(sampled(100.0, 50.0), 60001)
+sample(sampled(0.1, 0.3), 7)
+sample(sampled(333.3333333333333, 41.7), 350)
+sample(sampled(-0.0, -0.0), 0)
+sample(sampled(5e-324, 5e-324), 0)
+clock = sample(NEW, 17)
+clock = sample(clock, 23)
+clock = sample(clock, 1999)
+clock = sample(clock, 60001)
+clock = sample(clock, 3)
+measured(clock, 1.0, 60000.0)
 
-# bad states
-sample("sample 100 at NaN and 0", sampled(NAN, 0.0), 100)
-sample("sample 100 at 0 and NaN", sampled(0.0, NAN), 100)
-sample("sample 100 at infinity and 0", sampled(INF, 0.0), 100)
-sample("sample 100 at 0 and -infinity", sampled(0.0, -INF), 100)
-sample("sample 100 at -1 and 0", sampled(-1.0, 0.0), 100)
-sample("sample 100 at 0 and -5e-324", sampled(0.0, -5e-324), 100)
-sample("sample 100 at 60000.00000000001 and 0", sampled(60000.00000000001, 0.0), 100)
-sample("first sample 100 at NaN and 0", unsampled(NAN, 0.0), 100)
-fixed("fixed 500 at 0 and NaN", sampled(0.0, NAN), 500.0)
-fixed("fixed 500 at -1 and 0 before any sample", unsampled(-1.0, 0.0), 500.0)
-measured("1 to 60000 at 0 and infinity before any sample", unsampled(0.0, INF), 1.0, 60000.0)
+print("bad states")
+sample(sampled(NAN, 0.0), 100)
+sample(sampled(0.0, NAN), 100)
+sample(sampled(INF, 0.0), 100)
+sample(sampled(0.0, -INF), 100)
+sample(sampled(-1.0, 0.0), 100)
+sample(sampled(0.0, -5e-324), 100)
+sample(sampled(60000.00000000001, 0.0), 100)
+sample(unsampled(NAN, 0.0), 100)
+fixed(sampled(0.0, NAN), 500.0)
+fixed(unsampled(-1.0, 0.0), 500.0)
+measured(unsampled(0.0, INF), 1.0, 60000.0)
 
-# measured limits
-measured("1 to 60000 before any sample", NEW, 1.0, 60000.0)
-measured("2000 to 3000 before any sample", NEW, 2000.0, 3000.0)
-measured("1 to 999.5 before any sample", NEW, 1.0, 999.5)
-measured("1 to 60000 at 0 and 0", sampled(0.0, 0.0), 1.0, 60000.0)
-measured("1 to 60000 at -0 and -0", sampled(-0.0, -0.0), 1.0, 60000.0)
-measured("1 to 60000 at 100 and 0.25", sampled(100.0, 0.25), 1.0, 60000.0)
-measured("1 to 60000 at 0.1 and 0.3", sampled(0.1, 0.3), 1.0, 60000.0)
-measured("1 to 60000 at 60000 and 60000", sampled(60000.0, 60000.0), 1.0, 60000.0)
-measured("400 to 400 at 100 and 50", sampled(100.0, 50.0), 400.0, 400.0)
+print("measured limits")
+measured(NEW, 1.0, 60000.0)
+measured(NEW, 2000.0, 3000.0)
+measured(NEW, 1.0, 999.5)
+measured(sampled(0.0, 0.0), 1.0, 60000.0)
+measured(sampled(-0.0, -0.0), 1.0, 60000.0)
+measured(sampled(100.0, 0.25), 1.0, 60000.0)
+measured(sampled(0.1, 0.3), 1.0, 60000.0)
+measured(sampled(60000.0, 60000.0), 1.0, 60000.0)
+measured(sampled(100.0, 50.0), 400.0, 400.0)
 
-# fixed limits
-fixed("fixed 1 before any sample", NEW, 1.0)
-fixed("fixed 60000 at 100 and 50", sampled(100.0, 50.0), 60000.0)
-fixed("fixed 1234.5 at -0 and -0", sampled(-0.0, -0.0), 1234.5)
-fixed("fixed 0.9999999999999999", NEW, 0.9999999999999999)
-fixed("fixed 60000.00000000001", NEW, 60000.00000000001)
-fixed("fixed -0", NEW, -0.0)
-fixed("fixed NaN", NEW, NAN)
-fixed("fixed infinity", NEW, INF)
+print("fixed limits")
+fixed(NEW, 1.0)
+fixed(sampled(100.0, 50.0), 60000.0)
+fixed(sampled(-0.0, -0.0), 1234.5)
+fixed(NEW, 0.9999999999999999)
+fixed(NEW, 60000.00000000001)
+fixed(NEW, -0.0)
+fixed(NEW, NAN)
+fixed(NEW, INF)
 
-# bad floors and ceilings
-measured("0.5 to 60000", NEW, 0.5, 60000.0)
-measured("1 to 60001", NEW, 1.0, 60001.0)
-measured("300 to 200", NEW, 300.0, 200.0)
-measured("NaN to 60000", NEW, NAN, 60000.0)
-measured("1 to NaN", NEW, 1.0, NAN)
-measured("-infinity to infinity", NEW, -INF, INF)
+print("bad floors and ceilings")
+measured(NEW, 0.5, 60000.0)
+measured(NEW, 1.0, 60001.0)
+measured(NEW, 300.0, 200.0)
+measured(NEW, NAN, 60000.0)
+measured(NEW, 1.0, NAN)
+measured(NEW, -INF, INF)

@@ -48,30 +48,62 @@ fn write_number(x: f64) {
     text(b")");
 }
 
+// Writes a clock: whether a sample has come, the smoothed time and the deviation.
 fn write_clock(clock: Clock) {
     if clock.sampled {
-        text(b"sampled, smoothed ");
+        text(b"sampled ");
     } else {
-        text(b"no sample, smoothed ");
+        text(b"unsampled ");
     }
     write_number(clock.smoothed);
-    text(b", deviation ");
+    text(b" ");
     write_number(clock.deviation);
 }
 
-// Passes the clock to the sampler, writes the answer and the clock afterwards, and returns that clock.
-fn sample(what: &[u8], clock: Clock, r: u32) -> Clock {
+// Passes a clock to the sampler, writes the answer and the clock afterwards, and returns that clock.
+fn sample(clock: Clock, r: u32) -> Clock {
     let update = clock::with_sample(clock, r);
     let outcome = update.outcome;
     let after = update.clock;
-    text(what);
+    write_clock(clock);
+    text(b", sample ");
+    io::print_decimal(STDOUT_FILENO, r as u64);
     match outcome {
-        Outcome::Taken => text(b": taken: "),
-        Outcome::BadValue => text(b": refused 12: "),
+        Outcome::Taken => text(b": taken, "),
+        Outcome::BadValue => text(b": refused 12, "),
     }
     write_clock(after);
     text(b"\n");
     after
+}
+
+fn write_limit(limit: Limit) {
+    match limit {
+        Limit::Milliseconds(x) => {
+            text(b": ");
+            write_number(x);
+        }
+        Limit::BadValue => text(b": refused 12"),
+    }
+    text(b"\n");
+}
+
+// Writes the limit of a clock under a fixed setting.
+fn fixed(clock: Clock, x: f64) {
+    write_clock(clock);
+    text(b", fixed ");
+    write_number(x);
+    write_limit(clock.limit(Setting::Fixed { limit: x }));
+}
+
+// Writes the limit of a clock under a measured setting.
+fn measured(clock: Clock, floor: f64, ceiling: f64) {
+    write_clock(clock);
+    text(b", from ");
+    write_number(floor);
+    text(b" to ");
+    write_number(ceiling);
+    write_limit(clock.limit(Setting::Measured { floor, ceiling }));
 }
 
 fn sampled(smoothed: f64, deviation: f64) -> Clock {
@@ -90,169 +122,93 @@ fn unsampled(smoothed: f64, deviation: f64) -> Clock {
     }
 }
 
-fn limit(what: &[u8], clock: Clock, setting: Setting) {
-    text(what);
-    match clock.limit(setting) {
-        Limit::Milliseconds(x) => {
-            text(b": ");
-            write_number(x);
-        }
-        Limit::BadValue => text(b": refused 12"),
-    }
-    text(b"\n");
-}
-
-fn fixed(what: &[u8], clock: Clock, x: f64) {
-    limit(what, clock, Setting::Fixed { limit: x });
-}
-
-fn measured(what: &[u8], clock: Clock, floor: f64, ceiling: f64) {
-    limit(what, clock, Setting::Measured { floor, ceiling });
-}
-
 fn case_7() {
+    text(b"case 7\n");
     let mut clock = Clock::new();
-    clock = sample(b"case 7, sample 100", clock, 100);
-    measured(b"case 7, limit", clock, 1.0, 60000.0);
-    clock = sample(b"case 7, sample 100", clock, 100);
-    measured(b"case 7, limit", clock, 1.0, 60000.0);
-    clock = sample(b"case 7, sample 180", clock, 180);
-    measured(b"case 7, limit", clock, 1.0, 60000.0);
+    clock = sample(clock, 100);
+    measured(clock, 1.0, 60000.0);
+    clock = sample(clock, 100);
+    measured(clock, 1.0, 60000.0);
+    clock = sample(clock, 180);
+    measured(clock, 1.0, 60000.0);
 }
 
 fn first_samples() {
-    sample(b"first sample 0", Clock::new(), 0);
-    sample(b"first sample 1", Clock::new(), 1);
-    sample(b"first sample 60000", Clock::new(), 60000);
-    sample(b"first sample 60001", Clock::new(), 60001);
-    sample(b"first sample 4294967295", Clock::new(), 4294967295);
-    sample(
-        b"first sample 7 at 60000 and 60000",
-        unsampled(60000.0, 60000.0),
-        7,
-    );
+    text(b"first samples\n");
+    sample(Clock::new(), 0);
+    sample(Clock::new(), 1);
+    sample(Clock::new(), 60000);
+    sample(Clock::new(), 60001);
+    sample(Clock::new(), 4294967295);
+    sample(unsampled(60000.0, 60000.0), 7);
 }
 
 fn later_samples() {
-    sample(b"sample 0 at 60000 and 60000", sampled(60000.0, 60000.0), 0);
-    sample(
-        b"sample 60000 at 60000 and 60000",
-        sampled(60000.0, 60000.0),
-        60000,
-    );
-    sample(b"sample 60000 at 0 and 0", sampled(0.0, 0.0), 60000);
-    sample(b"sample 60001 at 100 and 50", sampled(100.0, 50.0), 60001);
-    sample(b"sample 7 at 0.1 and 0.3", sampled(0.1, 0.3), 7);
-    sample(
-        b"sample 350 at 333.3333333333333 and 41.7",
-        sampled(333.3333333333333, 41.7),
-        350,
-    );
-    sample(b"sample 0 at -0 and -0", sampled(-0.0, -0.0), 0);
-    sample(b"sample 0 at 5e-324 and 5e-324", sampled(5e-324, 5e-324), 0);
-    let mut clock = sample(b"run, sample 17", Clock::new(), 17);
-    clock = sample(b"run, sample 23", clock, 23);
-    clock = sample(b"run, sample 1999", clock, 1999);
-    clock = sample(b"run, sample 60001", clock, 60001);
-    clock = sample(b"run, sample 3", clock, 3);
-    measured(b"run, limit", clock, 1.0, 60000.0);
+    text(b"later samples\n");
+    sample(sampled(60000.0, 60000.0), 0);
+    sample(sampled(60000.0, 60000.0), 60000);
+    sample(sampled(0.0, 0.0), 60000);
+    sample(sampled(100.0, 50.0), 60001);
+    sample(sampled(0.1, 0.3), 7);
+    sample(sampled(333.3333333333333, 41.7), 350);
+    sample(sampled(-0.0, -0.0), 0);
+    sample(sampled(5e-324, 5e-324), 0);
+    let mut clock = sample(Clock::new(), 17);
+    clock = sample(clock, 23);
+    clock = sample(clock, 1999);
+    clock = sample(clock, 60001);
+    clock = sample(clock, 3);
+    measured(clock, 1.0, 60000.0);
 }
 
 fn bad_states(nan: f64, infinity: f64) {
-    sample(b"sample 100 at NaN and 0", sampled(nan, 0.0), 100);
-    sample(b"sample 100 at 0 and NaN", sampled(0.0, nan), 100);
-    sample(b"sample 100 at infinity and 0", sampled(infinity, 0.0), 100);
-    sample(
-        b"sample 100 at 0 and -infinity",
-        sampled(0.0, -infinity),
-        100,
-    );
-    sample(b"sample 100 at -1 and 0", sampled(-1.0, 0.0), 100);
-    sample(b"sample 100 at 0 and -5e-324", sampled(0.0, -5e-324), 100);
-    sample(
-        b"sample 100 at 60000.00000000001 and 0",
-        sampled(60000.00000000001, 0.0),
-        100,
-    );
-    sample(b"first sample 100 at NaN and 0", unsampled(nan, 0.0), 100);
-    fixed(b"fixed 500 at 0 and NaN", sampled(0.0, nan), 500.0);
-    fixed(
-        b"fixed 500 at -1 and 0 before any sample",
-        unsampled(-1.0, 0.0),
-        500.0,
-    );
-    measured(
-        b"1 to 60000 at 0 and infinity before any sample",
-        unsampled(0.0, infinity),
-        1.0,
-        60000.0,
-    );
+    text(b"bad states\n");
+    sample(sampled(nan, 0.0), 100);
+    sample(sampled(0.0, nan), 100);
+    sample(sampled(infinity, 0.0), 100);
+    sample(sampled(0.0, -infinity), 100);
+    sample(sampled(-1.0, 0.0), 100);
+    sample(sampled(0.0, -5e-324), 100);
+    sample(sampled(60000.00000000001, 0.0), 100);
+    sample(unsampled(nan, 0.0), 100);
+    fixed(sampled(0.0, nan), 500.0);
+    fixed(unsampled(-1.0, 0.0), 500.0);
+    measured(unsampled(0.0, infinity), 1.0, 60000.0);
 }
 
 fn measured_limits() {
-    measured(b"1 to 60000 before any sample", Clock::new(), 1.0, 60000.0);
-    measured(
-        b"2000 to 3000 before any sample",
-        Clock::new(),
-        2000.0,
-        3000.0,
-    );
-    measured(b"1 to 999.5 before any sample", Clock::new(), 1.0, 999.5);
-    measured(b"1 to 60000 at 0 and 0", sampled(0.0, 0.0), 1.0, 60000.0);
-    measured(
-        b"1 to 60000 at -0 and -0",
-        sampled(-0.0, -0.0),
-        1.0,
-        60000.0,
-    );
-    measured(
-        b"1 to 60000 at 100 and 0.25",
-        sampled(100.0, 0.25),
-        1.0,
-        60000.0,
-    );
-    measured(
-        b"1 to 60000 at 0.1 and 0.3",
-        sampled(0.1, 0.3),
-        1.0,
-        60000.0,
-    );
-    measured(
-        b"1 to 60000 at 60000 and 60000",
-        sampled(60000.0, 60000.0),
-        1.0,
-        60000.0,
-    );
-    measured(
-        b"400 to 400 at 100 and 50",
-        sampled(100.0, 50.0),
-        400.0,
-        400.0,
-    );
+    text(b"measured limits\n");
+    measured(Clock::new(), 1.0, 60000.0);
+    measured(Clock::new(), 2000.0, 3000.0);
+    measured(Clock::new(), 1.0, 999.5);
+    measured(sampled(0.0, 0.0), 1.0, 60000.0);
+    measured(sampled(-0.0, -0.0), 1.0, 60000.0);
+    measured(sampled(100.0, 0.25), 1.0, 60000.0);
+    measured(sampled(0.1, 0.3), 1.0, 60000.0);
+    measured(sampled(60000.0, 60000.0), 1.0, 60000.0);
+    measured(sampled(100.0, 50.0), 400.0, 400.0);
 }
 
 fn fixed_limits(nan: f64, infinity: f64) {
-    fixed(b"fixed 1 before any sample", Clock::new(), 1.0);
-    fixed(b"fixed 60000 at 100 and 50", sampled(100.0, 50.0), 60000.0);
-    fixed(b"fixed 1234.5 at -0 and -0", sampled(-0.0, -0.0), 1234.5);
-    fixed(
-        b"fixed 0.9999999999999999",
-        Clock::new(),
-        0.9999999999999999,
-    );
-    fixed(b"fixed 60000.00000000001", Clock::new(), 60000.00000000001);
-    fixed(b"fixed -0", Clock::new(), -0.0);
-    fixed(b"fixed NaN", Clock::new(), nan);
-    fixed(b"fixed infinity", Clock::new(), infinity);
+    text(b"fixed limits\n");
+    fixed(Clock::new(), 1.0);
+    fixed(sampled(100.0, 50.0), 60000.0);
+    fixed(sampled(-0.0, -0.0), 1234.5);
+    fixed(Clock::new(), 0.9999999999999999);
+    fixed(Clock::new(), 60000.00000000001);
+    fixed(Clock::new(), -0.0);
+    fixed(Clock::new(), nan);
+    fixed(Clock::new(), infinity);
 }
 
 fn bad_measured(nan: f64, infinity: f64) {
-    measured(b"0.5 to 60000", Clock::new(), 0.5, 60000.0);
-    measured(b"1 to 60001", Clock::new(), 1.0, 60001.0);
-    measured(b"300 to 200", Clock::new(), 300.0, 200.0);
-    measured(b"NaN to 60000", Clock::new(), nan, 60000.0);
-    measured(b"1 to NaN", Clock::new(), 1.0, nan);
-    measured(b"-infinity to infinity", Clock::new(), -infinity, infinity);
+    text(b"bad floors and ceilings\n");
+    measured(Clock::new(), 0.5, 60000.0);
+    measured(Clock::new(), 1.0, 60001.0);
+    measured(Clock::new(), 300.0, 200.0);
+    measured(Clock::new(), nan, 60000.0);
+    measured(Clock::new(), 1.0, nan);
+    measured(Clock::new(), -infinity, infinity);
 }
 
 fn main() {
