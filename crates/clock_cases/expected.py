@@ -72,6 +72,10 @@ def measured(state, floor, ceiling):
     limit(state, f"from {number(floor)} to {number(ceiling)}", good, min(max(value, floor), ceiling))
 
 
+def later(smoothed, deviation, r):
+    sample(sampled(smoothed, deviation), r)
+
+
 print("case 7")
 clock = sample(NEW, 100)
 measured(clock, 1.0, 60000.0)
@@ -89,32 +93,34 @@ sample(NEW, 4294967295)
 sample(unsampled(60000.0, 60000.0), 7)
 
 print("later samples")
-sample(sampled(60000.0, 60000.0), 0)
-sample(sampled(60000.0, 60000.0), 60000)
-sample(sampled(0.0, 0.0), 60000)
-sample(sampled(100.0, 50.0), 60001)
-sample(sampled(0.1, 0.3), 7)
-sample(sampled(333.3333333333333, 41.7), 350)
-sample(sampled(-0.0, -0.0), 0)
-sample(sampled(5e-324, 5e-324), 0)
-clock = sample(NEW, 17)
-clock = sample(clock, 23)
-clock = sample(clock, 1999)
-clock = sample(clock, 60001)
-clock = sample(clock, 3)
+later(60000.0, 60000.0, 0)
+later(60000.0, 60000.0, 60000)
+later(0.0, 0.0, 60000)
+later(100.0, 50.0, 60001)
+later(0.1, 0.3, 7)
+later(333.3333333333333, 41.7, 350)
+later(-0.0, -0.0, 0)
+later(5e-324, 5e-324, 0)
+
+print("a run of samples")
+clock = NEW
+for r in (17, 23, 1999, 60001, 3):
+    clock = sample(clock, r)
 measured(clock, 1.0, 60000.0)
 
 print("bad states")
-sample(sampled(NAN, 0.0), 100)
-sample(sampled(0.0, NAN), 100)
-sample(sampled(INF, 0.0), 100)
-sample(sampled(0.0, -INF), 100)
-sample(sampled(-1.0, 0.0), 100)
-sample(sampled(0.0, -5e-324), 100)
-sample(sampled(60000.00000000001, 0.0), 100)
+later(NAN, 0.0, 100)
+later(0.0, NAN, 100)
+later(INF, 0.0, 100)
+later(0.0, -INF, 100)
+later(-1.0, 0.0, 100)
+later(0.0, -5e-324, 100)
+later(60000.00000000001, 0.0, 100)
+
+print("bad states, no sample or a fixed limit")
 sample(unsampled(NAN, 0.0), 100)
-fixed(sampled(0.0, NAN), 500.0)
 fixed(unsampled(-1.0, 0.0), 500.0)
+fixed(sampled(0.0, NAN), 500.0)
 measured(unsampled(0.0, INF), 1.0, 60000.0)
 
 print("measured limits")

@@ -122,6 +122,10 @@ fn unsampled(smoothed: f64, deviation: f64) -> Clock {
     }
 }
 
+fn later(smoothed: f64, deviation: f64, r: u32) {
+    sample(sampled(smoothed, deviation), r);
+}
+
 fn case_7() {
     text(b"case 7\n");
     let mut clock = Clock::new();
@@ -135,25 +139,31 @@ fn case_7() {
 
 fn first_samples() {
     text(b"first samples\n");
-    sample(Clock::new(), 0);
-    sample(Clock::new(), 1);
-    sample(Clock::new(), 60000);
-    sample(Clock::new(), 60001);
-    sample(Clock::new(), 4294967295);
+    let new = Clock::new();
+    sample(new, 0);
+    sample(new, 1);
+    sample(new, 60000);
+    sample(new, 60001);
+    sample(new, 4294967295);
     sample(unsampled(60000.0, 60000.0), 7);
 }
 
 fn later_samples() {
     text(b"later samples\n");
-    sample(sampled(60000.0, 60000.0), 0);
-    sample(sampled(60000.0, 60000.0), 60000);
-    sample(sampled(0.0, 0.0), 60000);
-    sample(sampled(100.0, 50.0), 60001);
-    sample(sampled(0.1, 0.3), 7);
-    sample(sampled(333.3333333333333, 41.7), 350);
-    sample(sampled(-0.0, -0.0), 0);
-    sample(sampled(5e-324, 5e-324), 0);
-    let mut clock = sample(Clock::new(), 17);
+    later(60000.0, 60000.0, 0);
+    later(60000.0, 60000.0, 60000);
+    later(0.0, 0.0, 60000);
+    later(100.0, 50.0, 60001);
+    later(0.1, 0.3, 7);
+    later(333.3333333333333, 41.7, 350);
+    later(-0.0, -0.0, 0);
+    later(5e-324, 5e-324, 0);
+}
+
+fn run_of_samples() {
+    text(b"a run of samples\n");
+    let mut clock = Clock::new();
+    clock = sample(clock, 17);
     clock = sample(clock, 23);
     clock = sample(clock, 1999);
     clock = sample(clock, 60001);
@@ -163,24 +173,29 @@ fn later_samples() {
 
 fn bad_states(nan: f64, infinity: f64) {
     text(b"bad states\n");
-    sample(sampled(nan, 0.0), 100);
-    sample(sampled(0.0, nan), 100);
-    sample(sampled(infinity, 0.0), 100);
-    sample(sampled(0.0, -infinity), 100);
-    sample(sampled(-1.0, 0.0), 100);
-    sample(sampled(0.0, -5e-324), 100);
-    sample(sampled(60000.00000000001, 0.0), 100);
+    later(nan, 0.0, 100);
+    later(0.0, nan, 100);
+    later(infinity, 0.0, 100);
+    later(0.0, -infinity, 100);
+    later(-1.0, 0.0, 100);
+    later(0.0, -5e-324, 100);
+    later(60000.00000000001, 0.0, 100);
+}
+
+fn bad_states_judged_too(nan: f64, infinity: f64) {
+    text(b"bad states, no sample or a fixed limit\n");
     sample(unsampled(nan, 0.0), 100);
-    fixed(sampled(0.0, nan), 500.0);
     fixed(unsampled(-1.0, 0.0), 500.0);
+    fixed(sampled(0.0, nan), 500.0);
     measured(unsampled(0.0, infinity), 1.0, 60000.0);
 }
 
 fn measured_limits() {
     text(b"measured limits\n");
-    measured(Clock::new(), 1.0, 60000.0);
-    measured(Clock::new(), 2000.0, 3000.0);
-    measured(Clock::new(), 1.0, 999.5);
+    let new = Clock::new();
+    measured(new, 1.0, 60000.0);
+    measured(new, 2000.0, 3000.0);
+    measured(new, 1.0, 999.5);
     measured(sampled(0.0, 0.0), 1.0, 60000.0);
     measured(sampled(-0.0, -0.0), 1.0, 60000.0);
     measured(sampled(100.0, 0.25), 1.0, 60000.0);
@@ -191,24 +206,26 @@ fn measured_limits() {
 
 fn fixed_limits(nan: f64, infinity: f64) {
     text(b"fixed limits\n");
-    fixed(Clock::new(), 1.0);
+    let new = Clock::new();
+    fixed(new, 1.0);
     fixed(sampled(100.0, 50.0), 60000.0);
     fixed(sampled(-0.0, -0.0), 1234.5);
-    fixed(Clock::new(), 0.9999999999999999);
-    fixed(Clock::new(), 60000.00000000001);
-    fixed(Clock::new(), -0.0);
-    fixed(Clock::new(), nan);
-    fixed(Clock::new(), infinity);
+    fixed(new, 0.9999999999999999);
+    fixed(new, 60000.00000000001);
+    fixed(new, -0.0);
+    fixed(new, nan);
+    fixed(new, infinity);
 }
 
-fn bad_measured(nan: f64, infinity: f64) {
+fn bad_floors_and_ceilings(nan: f64, infinity: f64) {
     text(b"bad floors and ceilings\n");
-    measured(Clock::new(), 0.5, 60000.0);
-    measured(Clock::new(), 1.0, 60001.0);
-    measured(Clock::new(), 300.0, 200.0);
-    measured(Clock::new(), nan, 60000.0);
-    measured(Clock::new(), 1.0, nan);
-    measured(Clock::new(), -infinity, infinity);
+    let new = Clock::new();
+    measured(new, 0.5, 60000.0);
+    measured(new, 1.0, 60001.0);
+    measured(new, 300.0, 200.0);
+    measured(new, nan, 60000.0);
+    measured(new, 1.0, nan);
+    measured(new, -infinity, infinity);
 }
 
 fn main() {
@@ -218,8 +235,10 @@ fn main() {
     case_7();
     first_samples();
     later_samples();
+    run_of_samples();
     bad_states(nan, infinity);
+    bad_states_judged_too(nan, infinity);
     measured_limits();
     fixed_limits(nan, infinity);
-    bad_measured(nan, infinity);
+    bad_floors_and_ceilings(nan, infinity);
 }
