@@ -1,4 +1,5 @@
 -- The laws of the ping clock.
+pub mod Tests
 pub mod Answers
 pub mod Cases
 pub mod Range

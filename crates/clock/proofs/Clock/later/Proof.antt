@@ -8,7 +8,7 @@ use Rattle.clock.proofs.Clock.later.Tie as tie
 
 returns : tie.Need-returns
 unfolding ofBits ofInt div whole 0·75 0·25 0·875 0·125 later
-returns c = simp (c .before .distance .ensures)
+returns c = cc
 
 pub later-spec : {M : Type 1} → statement M
 later-spec = tie.close (tie.spec (λ c κs. search needs) returns)
