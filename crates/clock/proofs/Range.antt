@@ -132,16 +132,16 @@ module _ (n : ℕ) (exact : Exact n) (s t : Bool) (a b c : ℕ) (C : 0 < c) (f :
   unfolding sum
   difference-up-to o h =
       either-up-to n (Bool·beq s (not t))
-      (λ e. let z = nothing s t e f g in round-up-to n exact s (a + b) c C (λ u. let p = f u in omega arith) (omega arith))
+      (λ e. let z = subtrahend s t e f g in round-up-to n exact s (a + b) c C (λ u. let p = f u in omega arith) (omega arith))
       (λ _. either-up-to n (ltb a b)
       (λ _. round-up-to n exact (not t) (b - a) c C (λ u. omega arith) (omega arith))
       (λ _. round-up-to n exact (s && ltb b a) (a - b) c C (λ u. let p = f (T-first s (ltb b a) u) in omega arith) (omega arith)))
     where
       -- signs that the sum meets as equal leave no b to subtract
-      nothing : (s t : Bool) → T (Bool·beq s (not t)) → (T s → a ≡ 0) → (T t → b ≡ 0) → b ≡ 0
-      nothing true t e f g = let p = f tt in omega arith
-      nothing false true e f g = g tt
-      nothing false false e f g = absurd e
+      subtrahend : (s t : Bool) → T (Bool·beq s (not t)) → (T s → a ≡ 0) → (T t → b ≡ 0) → b ≡ 0
+      subtrahend true t e f g = let p = f tt in omega arith
+      subtrahend false true e f g = g tt
+      subtrahend false false e f g = absurd e
 
 -- a size x / d over the denominators d * e and e * d
 over : (n x d e : ℕ) → x ≤ n * d → x * e ≤ n * (d * e)

@@ -2,5 +2,5 @@
 use mathlib.Core.Path.{_≡_}
 use mathlib.Core.Bool.{Bool, _&&_}
 
-pub both-told : {a b p q r : Bool} → a ≡ p → b ≡ q → (a && b) ≡ r → (p && q) ≡ r
-both-told s t e = cc
+pub both-ensured : {a b p q r : Bool} → a ≡ p → b ≡ q → (a && b) ≡ r → (p && q) ≡ r
+both-ensured s t e = cc

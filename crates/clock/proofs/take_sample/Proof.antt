@@ -110,8 +110,8 @@ module _ {M : Type 1} (𝓤 : URA M) (H : Heap 𝓤) (A : Atoms 𝓤) (W : Given
     abbrev Ensured : Update → SProp 𝓤
     Ensured r = ensured 𝓤 H A update.ended (update.clauses 𝓤 H A at-mem run) tt (h, (n, tt)) tt r
 
-    said : (r : Update) → ent 𝓤 (Ensured r) (fact 𝓤 (updateResult r ≡ sampleRule h n))
-    said r = exE 𝓤 _ (λ ws. snd∗ 𝓤 (sem 𝓤 H A (lasts update.ended tt (h, (n, tt)) ws)) (fact 𝓤 (updateResult r ≡ sampleRule h n)))
+    by-the-rule : (r : Update) → ent 𝓤 (Ensured r) (fact 𝓤 (updateResult r ≡ sampleRule h n))
+    by-the-rule r = exE 𝓤 _ (λ ws. snd∗ 𝓤 (sem 𝓤 H A (lasts update.ended tt (h, (n, tt)) ws)) (fact 𝓤 (updateResult r ≡ sampleRule h n)))
 
     exits : (r : Update) → updateResult r ≡ sampleRule h n → Is O.the-row (r .outcome) (outcome-val r ∷ [])
         → ent 𝓤 (sep 𝓤 (A .obs γ (C.the-row .coded .code (r .clock))) (sep 𝓤 (A .bor κ (Body (mem C.the-row) b o γ)) (A .lft κ q))) (Own .post called (outcome-val r))
@@ -147,7 +147,7 @@ module _ {M : Type 1} (𝓤 : URA M) (H : Heap 𝓤) (A : Atoms 𝓤) (W : Given
           calls-at ! fm Callee known to
           (and-then ! (load ! (from ! (stop !)) (look ! 5 refl)) (and-then ! (load ! (from ! (stop !)) (look ! 9 refl)) (no-more !))) (λ v.
           use1 W (later (some (λ (r : Update). (‵ ftrue ⊛ ‵ (U.the-row .own r (v ∷ []))) ⊛ raw (Ensured r)))) (id⊢ 𝓤 _) $ await ! tt $ pick ! (λ r.
-          split ! $ move ! (1 ∷ []) $ use1 W (raw (fact 𝓤 (updateResult r ≡ sampleRule h n))) (said r) $
+          split ! $ move ! (1 ∷ []) $ use1 W (raw (fact 𝓤 (updateResult r ≡ sampleRule h n))) (by-the-rule r) $
           heard ! (updateResult r ≡ sampleRule h n) (λ e. split ! $ drop ! $
           peeks ! U.the-row (Is U.the-row) (shows 𝓤 H A U.the-row) r (v ∷ []) (λ is. drop ! $
           -- the update lands, and its machine value is spelled out

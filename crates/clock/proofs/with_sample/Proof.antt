@@ -108,8 +108,8 @@ module _ {M : Type 1} (𝓤 : URA M) (H : Heap 𝓤) (A : Atoms 𝓤) (W : Given
         owned ! u32 (Is u32) (uint-makes 𝓤 H A W w32) n _ (refl, n-fits) $ fjoin ! $ move ! (2 ∷ 0 ∷ []) $ fjoin ! $ move ! (1 ∷ 0 ∷ []) $ join ! $ frame ! $ done !
 
     -- what the callee ensures, at some last clock
-    abbrev Said : Outcome → Clock → Type 0
-    Said a last = (outcomeResult a, last) ≡ sampleRule h n
+    abbrev ByTheRule : Outcome → Clock → Type 0
+    ByTheRule a last = (outcomeResult a, last) ≡ sampleRule h n
 
     -- the clock in a local's cell lies in memory
     lies : (l : ℕ) → ent 𝓤 (sem 𝓤 H A (fat fullShare C′.mir l 0 (clock-val h))) (sem 𝓤 H A (mem C.the-row .lies h l 0))
@@ -120,7 +120,7 @@ module _ {M : Type 1} (𝓤 : URA M) (H : Heap 𝓤) (A : Atoms 𝓤) (W : Given
         owned ! C.the-row (Is C.the-row) (LL.makes C.the-type C′.the-plain 𝓤 H A) h _ was $ move ! (1 ∷ 0 ∷ []) $ fjoin ! $
         fpack ! (List Val) (λ us. fsep (cellAt fullShare (C.the-row .mir) us l 0) (C.the-row .own h us)) (clock-val h ∷ []) $ done !
 
-    exits : (a : Outcome) (c : Clock) → Said a c → Is U.the-row (result a c) (result-val a c ∷ []) → ent 𝓤 (emp 𝓤) (Own .post called (result-val a c))
+    exits : (a : Outcome) (c : Clock) → ByTheRule a c → Is U.the-row (result a c) (result-val a c ∷ []) → ent 𝓤 (emp 𝓤) (Own .post called (result-val a c))
     exits a c e is =
         qed W [] ∵
         suffices ! _ (ends-at 𝓤 H A f.ended stayed (f.clauses 𝓤 H A at-mem run) W called (result-val a c) (result a c) (tt, (tt, tt)) (tt, (tt, tt))) $
@@ -150,8 +150,8 @@ module _ {M : Type 1} (𝓤 : URA M) (H : Heap 𝓤) (A : Atoms 𝓤) (W : Given
           use1 W (later (some (λ (a : Outcome). ((‵ (flft (ν ∷ []) fullShare) ⊛ ‵ ftrue) ⊛ ‵ (O.the-row .own a (v ∷ []))) ⊛
           raw (ensured 𝓤 H A take.ended (take.clauses 𝓤 H A at-mem run) (ν ∷ [], tt) (ref l₃ δ, (n, tt)) tt a)))) (id⊢ 𝓤 _) $ await ! tt $ pick ! (λ a.
           split ! $ move ! (1 ∷ []) $
-          use1 W (some (λ (zs : Clock × (Unit {0} × Unit {0})). ‵ (lasts take.ended (ν ∷ [], tt) (ref l₃ δ, (n, tt)) zs) ⊛ raw (fact 𝓤 (Said a (zs .0))))) (id⊢ 𝓤 _) $ pick ! (λ zs.
-          split ! $ move ! (1 ∷ []) $ heard ! (Said a (zs .0)) (λ e. fsplit ! $ move ! (2 ∷ []) $ split ! $ move ! (1 ∷ []) $
+          use1 W (some (λ (zs : Clock × (Unit {0} × Unit {0})). ‵ (lasts take.ended (ν ∷ [], tt) (ref l₃ δ, (n, tt)) zs) ⊛ raw (fact 𝓤 (ByTheRule a (zs .0))))) (id⊢ 𝓤 _) $ pick ! (λ zs.
+          split ! $ move ! (1 ∷ []) $ heard ! (ByTheRule a (zs .0)) (λ e. fsplit ! $ move ! (2 ∷ []) $ split ! $ move ! (1 ∷ []) $
           peeks ! O.the-row (Is O.the-row) (shows 𝓤 H A O.the-row) a (v ∷ []) (λ is. drop ! $
           -- [the token; the last value; _; the lender's part; _6; …; _5; …; _4; …; _3's end; _2; …; _1; …; room for _0; …]: the outcome lands
           land ! (from ! (stop !)) (init ! 8 refl (EL.lawful O.the-type O′.the-laws 𝓤 H A W tt .typed a _ is .0)) $
