@@ -4,6 +4,7 @@ use mathlib.Core.Bool.{Bool, true, false, _||_, cond, false≢true}
 use lib.Ieee.{Float, nan, inf, fin, lt, le, eq, ne}
 use lib.Ieee.Compare.{differs-from-itself}
 use Rattle.clock.specs.Arithmetic.{larger, held}
+use Rattle.clock.specs.Claims.{Between}
 
 lt→le : (x y : Float) → lt x y ≡ true → le x y ≡ true
 unfolding le
@@ -37,11 +38,10 @@ module _ (floor ceiling : Float) (order : le floor ceiling ≡ true) where
   at-ceiling : le ceiling ceiling ≡ true
   at-ceiling = le-itself ceiling (λ e. false≢true (sym (le-nan floor) ∙ rw e at order))
 
-  pub held-between : (x : Float) → (le floor (held floor ceiling x) ≡ true) × (le (held floor ceiling x) ceiling ≡ true)
+  pub held-between : (x : Float) → Between floor ceiling (held floor ceiling x)
   held-between x = go (lt floor x) (lt (larger floor x) ceiling) refl refl
     where
-      go : (a b : Bool) → lt floor x ≡ a → lt (cond a x floor) ceiling ≡ b
-          → (le floor (cond b (cond a x floor) ceiling) ≡ true) × (le (cond b (cond a x floor) ceiling) ceiling ≡ true)
+      go : (a b : Bool) → lt floor x ≡ a → lt (cond a x floor) ceiling ≡ b → Between floor ceiling (cond b (cond a x floor) ceiling)
       go true true p q = (lt→le floor x p, lt→le x ceiling q)
       go false true p q = (at-floor, order)
       go a false p q = (order, at-ceiling)

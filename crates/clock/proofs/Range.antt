@@ -1,12 +1,14 @@
--- The clock's operations on numbers from 0 to a bound: the rounded result keeps the bound of the exact one, from the library's law that rounding keeps the order.
+-- The bounds that the clock's operations keep on numbers from 0 up; from the library's law that rounding keeps the order.
 use mathlib.Core.Path.{_≡_, refl, sym, ap, _∙_, subst}
 use mathlib.Core.Bool.{Bool, true, false, not, _&&_, Bool·beq, cond}
 use Prim.Native.Nat.{ℕ, zero, suc, _+_, _-_, _*_, _^_, _≤_, _<_, zero-le}
-use native.Mathlib.Nat.{le-trans, le-of-eq, mul-comm, mul-assoc, mul-left-comm, mul-one, mul-zero, zero-mul, add-mul, mul-le-mul-right, mul-pos, zero-lt-suc}
+use native.Mathlib.Nat.{le-trans, le-of-eq, mul-comm, mul-assoc, mul-left-comm, mul-one, mul-zero, zero-mul, mul-pos, zero-lt-suc}
+use native.Mathlib.Nat.{add-mul, mul-le-mul-right}
 use native.Mathlib.Omega.{arith}
 use lib.IntN.{ℤ, pos}
 use lib.Dec.{T, ltb, leb, ltb→lt, lt→ltb, leb→le, nltb→le, lit<}
-use lib.Ieee.{Float, inf, nan, fin, binary64, prec, emax, low, up, down, unlike, odd, units, round, below, sum, add, sub, neg, mul, div, lt, le, ofInt}
+use lib.Ieee.{Float, inf, nan, fin, binary64, prec, emax, low, up, down, unlike, odd, units, round, ofInt}
+use lib.Ieee.{below, sum, add, sub, neg, mul, div, lt, le}
 use lib.Ieee.Fits.{round-is, down-pos}
 use lib.Ieee.Exact.{HasValue}
 use lib.Ieee.Order.{drop, kept, round-mono}
@@ -42,6 +44,7 @@ module _ (n : ℕ) (exact : Exact n) where
       (positive-of-value (whole n) n 1 whole-value (ltb→lt 0 n (T-first (ltb 0 n) (leb n (2 ^ 53)) exact)))
       (refl, refl) whole-value t)
 
+  -- no infinity is at most n
   infinity : T (le (inf false) (whole n)) → ⊥
   infinity t = go (whole n) whole-value t
     where

@@ -1,4 +1,4 @@
--- A clock just made is sound after any list of samples: from the law that a good clock stays good, and since what is held lies between floor and ceiling.
+-- A clock just made is sound after any list of samples; from the laws that a good clock stays good and that what is held lies between.
 use mathlib.Core.Path.{_≡_, refl}
 use mathlib.Core.Bool.{Bool, true, false, _&&_}
 use mathlib.Core.List.{List, [], _∷_}
@@ -23,8 +23,7 @@ pub good-is-sound : (clock : Clock) → goodClock clock ≡ true → Sound clock
 good-is-sound clock c = record {
   takes = λ R s. unfold sampleRule in yes _ _ _ (and-both c s);
   limits = λ setting s. unfold limitRule in yes _ _ _ (and-both c s);
-  above = λ floor ceiling s. held-between floor ceiling (floor-below-ceiling floor ceiling s) (measured clock) .0;
-  below = λ floor ceiling s. held-between floor ceiling (floor-below-ceiling floor ceiling s) (measured clock) .1;
+  between = λ floor ceiling s. held-between floor ceiling (floor-below-ceiling floor ceiling s) (measured clock);
 }
 
 -- a sample, taken or refused, leaves a good clock good

@@ -4,9 +4,9 @@ use mathlib.Core.Bool.{Bool, _&&_, cond}
 use lib.IntN.{pos}
 use lib.Ieee.{Float, binary64, add, sub, mul, div, lt, le, ofInt}
 
+-- sum, difference, product and quotient, rounded once: to the nearest number, at a tie to the even one
 infixl 6 _⊕_ _⊖_
 infixl 7 _⊗_ _⊘_
--- sum, difference, product and quotient, rounded once: to the nearest number, at a tie to the even one
 abbrev pub _⊕_ : Float → Float → Float
 x ⊕ y = add binary64 x y
 
