@@ -24,13 +24,20 @@ fn read(from: Role, input: &[u8]) {
     show::text(b"\n");
 }
 
-// The first n bytes of a client's Data message for session 5 whose length is FFFF, 8000 or 0001 hex.
+// Puts the header of a Data message for session 5 at the start of a room.
+fn put_header(room: &mut [u8], high: u8, low: u8) {
+    if 4 <= room.len() {
+        room[0] = 0x80;
+        room[1] = 0x05;
+        room[2] = high;
+        room[3] = low;
+    }
+}
+
+// The first n bytes of a client's Data message whose length is FFFF, 8000 or 0001 hex.
 fn read_data(high: u8, low: u8, n: usize) {
     let mut input = [0u8; 65600];
-    input[0] = 0x80;
-    input[1] = 0x05;
-    input[2] = high;
-    input[3] = low;
+    put_header(&mut input, high, low);
     read(Role::Client, show::first(&input, n));
 }
 
