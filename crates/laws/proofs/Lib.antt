@@ -5,3 +5,5 @@ pub mod Below
 pub mod Words
 pub mod Lists
 pub mod Results
+pub mod Circle
+pub mod Runs

@@ -1,10 +1,10 @@
 -- Laws on lists beyond the library's: bytes, the elements of a part by name, and copies over the front of a list.
 use mathlib.Core.Path.{_≡_, refl, ap, _∙_}
 use mathlib.Core.List.{List, [], _∷_, _++_}
-use Prim.Native.Nat.{ℕ, zero, suc, _+_, _≤_, _<_}
+use Prim.Native.Nat.{ℕ, zero, suc, _+_, _-_, _≤_, _<_}
 use native.Mathlib.Omega.{arith}
 use lib.ListN.{length, getD, take, drop}
-use lib.Seq.{drop-cons, take-append-seam, drop-append-add, drop-drop}
+use lib.Seq.{take-nil, drop-cons, take-append-seam, drop-append-add, drop-drop}
 
 -- each element is a byte
 abbrev pub Bytes : List ℕ → Type 0
@@ -31,3 +31,11 @@ pub two-copies : (first second room : List ℕ) {mid last : List ℕ} → mid �
     → last ≡ first ++ second ++ drop (length first + length second) room
 two-copies first second room p q =
     rw (q, p, take-append-seam, drop-append-add) (ap (λ (l : List ℕ). first ++ second ++ l) (drop-drop (length second) (length first) room))
+
+pub take-drop : (w n : ℕ) (s : List ℕ) → n ≤ w → take (w - n) (drop n s) ≡ drop n (take w s)
+take-drop w zero s h = let e : w - 0 ≡ w = omega arith in ap (λ (k : ℕ). take k s) e
+take-drop zero (suc n) s h = absurd (omega arith)
+take-drop (suc w) (suc n) [] h = take-nil (suc w - suc n)
+take-drop (suc w) (suc n) (b ∷ s) h =
+    let e : suc w - suc n ≡ w - n = omega arith in
+    ap (λ (k : ℕ). take k (drop n s)) e ∙ take-drop w n s (omega arith)

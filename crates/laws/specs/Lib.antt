@@ -1,3 +1,5 @@
 -- The definitions that several crates share.
 pub mod Pick
 pub mod Result
+pub mod Circle
+pub mod Runs

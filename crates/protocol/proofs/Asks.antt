@@ -1,0 +1,288 @@
+-- Each local call keeps what is observed of its session: one lemma for each call, about one session and no table.
+use mathlib.Core.Path.{_≡_, refl, sym, ap, _∙_, subst}
+use mathlib.Core.Bool.{Bool, true, false, not, _&&_, _||_, true≢false, false≢true}
+use mathlib.Core.List.{List, [], _∷_, _++_}
+use Prim.Native.Nat.{ℕ, zero, suc, _+_, _-_, _≤_, _<_, min}
+use native.Mathlib.Omega.{arith}
+use lib.ListN.{length, take, drop, length-append}
+use lib.Seq.{take-at, length-take-le}
+use lib.Dec.{eqb, ltb}
+use borrow.Author.Tests.{ltb-false, eqb-false}
+use Rattle.ration.specs.declared.Ration.{Ration}
+use Rattle.ration.specs.declared.Ration.the-variants as ration
+use Rattle.ration.specs.Ration.{inRange, allows, plus, minus, grantable}
+use Rattle.ration.proofs.Laws.{minus-in-range}
+use Rattle.wire.specs.declared.Role.{Role}
+use Rattle.wire.specs.declared.Role.the-variants as role
+use Rattle.wire.specs.Message.{isClient, isServer, onlyIf}
+use Rattle.protocol.specs.declared.Side.{Side}
+use Rattle.protocol.specs.declared.Side.the-variants as side
+use Rattle.protocol.specs.declared.Before.{Before}
+use Rattle.protocol.specs.declared.Before.the-variants as before
+use Rattle.protocol.specs.declared.Sides.{Sides}
+use Rattle.protocol.specs.declared.Sides.the-variants as sides
+use Rattle.protocol.specs.declared.Session.{Session}
+use Rattle.protocol.specs.Slot.{slotSize}
+use Rattle.protocol.specs.Plan.{Plan, stop, check}
+use Rattle.protocol.specs.Queue.{putSlot}
+use Rattle.protocol.specs.declared.Outcome.the-variants as outcome
+use Rattle.protocol.specs.Message.{increment-of, abort-of, close-of}
+use Rattle.protocol.specs.Session.{sided, dropped, settled}
+use Rattle.protocol.specs.Receipt.{Taken}
+use Rattle.protocol.specs.Ask.{opened, openOf, openAsk, sends, putAsk, finishAsk, mayGrant, grantAsk, restored, aborting, abortOf, abortAsk, closeOf, closeAsk}
+use Rattle.laws.specs.Runs.{fold}
+use Rattle.protocol.specs.Observed
+use Rattle.protocol.specs.Observed.{opens, finishes, aborts, puts, Event, Sending, silent, sending, isReady, isEmpty, lapses, sendsAfter, withPut, ours, observe, established, permitsOurs}
+use Rattle.laws.proofs.Tests.{and-both, or-first, or-second, not-false}
+use Rattle.protocol.proofs.Plans.{Takes}
+use Rattle.protocol.proofs.Views.{endsOf, sendsOf, look, Formed, seen-path}
+use Rattle.protocol.proofs.Sound.{Sound}
+
+-- ---- finish
+
+finish-ready : (v : Sending) → isReady v ≡ true → isReady (Observed.withFinish v) ≡ true
+finish-ready silent h = h
+finish-ready (sending true w r f) h = refl
+finish-ready (sending false [] r f) h = refl
+finish-ready (sending false (b ∷ w) r f) h = h
+
+finish-sends : (far : Ration) (z : Sides) (w : List ℕ) (r : Ration) (f : Bool) → sendsOf far z w r true ≡ Observed.withFinish (sendsOf far z w r f)
+finish-sends far sides.Idle w r f = refl
+finish-sends far (sides.Opening b) w r f = refl
+finish-sends far (sides.Live side.Open t) w r f = refl
+finish-sends far (sides.Live side.Finished t) w r f = refl
+finish-sends far (sides.Live side.Ended t) w r f = refl
+
+pub finish-sound : (r : Role) (own far : Ration) (x : Session) (s : List ℕ) → Formed r true x
+    → Takes (Sound r own far x s (finishes ∷ []) [] s) (finishAsk x)
+unfolding finishAsk fold
+finish-sound r own far x s f side =
+    let e = finish-sends far (x .sides) (take (x .waiting) s) (x .outbound) (x .finish) in
+    record {
+      seen = seen-path refl e refl;
+      formed =
+          record {
+            outbound = f .outbound;
+            inbound = f .inbound;
+            waiting = f .waiting;
+            none = f .none;
+            finish = not-false (sends (x .sides)) (or-first (not (sends (x .sides))) (x .finish) side);
+            place = f .place;
+          };
+      lasts = λ h _ _. ap isReady e ∙ finish-ready (sendsOf far (x .sides) (take (x .waiting) s) (x .outbound) (x .finish)) h;
+      lawful = tt;
+    }
+
+-- ---- put
+
+put-slot : (w : ℕ) (bytes s : List ℕ) → w ≤ length s → take (w + length bytes) (putSlot w bytes s) ≡ take w s ++ bytes
+put-slot w bytes s h =
+    take-at (take w s ++ bytes) _ (w + length bytes)
+    (length-append (take w s) bytes ∙ ap (λ (n : ℕ). n + length bytes) (length-take-le w s h))
+
+put-ready : (far : Ration) (z : Sides) (w : List ℕ) (r : Ration) (f : Bool) (bytes : List ℕ) → f ≡ false → isReady (sendsOf far z w r f) ≡ true
+    → isReady (withPut bytes (sendsOf far z w r f)) ≡ true
+put-ready far sides.Idle w r f bytes e h = h
+put-ready far (sides.Opening b) w r f bytes e h = refl
+put-ready far (sides.Live side.Open t) [] r f bytes e h = absurd (true≢false (sym h ∙ e))
+put-ready far (sides.Live side.Open t) (b ∷ w) r f bytes e h = h
+put-ready far (sides.Live side.Finished t) w r f bytes e h = h
+put-ready far (sides.Live side.Ended t) w r f bytes e h = h
+
+put-sends : (far : Ration) (z : Sides) (w w′ bytes : List ℕ) (r : Ration) (f : Bool) → w′ ≡ w ++ bytes → sendsOf far z w′ r f ≡ withPut bytes (sendsOf far z w r f)
+put-sends far sides.Idle w w′ bytes r f e = refl
+put-sends far (sides.Opening b) w w′ bytes r f e = ap (λ (l : List ℕ). sending true l far f) e
+put-sends far (sides.Live side.Open t) w w′ bytes r f e = ap (λ (l : List ℕ). sending false l r f) e
+put-sends far (sides.Live side.Finished t) w w′ bytes r f e = refl
+put-sends far (sides.Live side.Ended t) w w′ bytes r f e = refl
+
+pub put-sound : (r : Role) (own far : Ration) (x : Session) (s bytes : List ℕ) → Formed r true x → x .waiting ≤ length s
+    → Takes (Sound r own far x s (puts bytes ∷ []) [] (putSlot (x .waiting) bytes s)) (putAsk x (length bytes))
+unfolding putAsk fold
+put-sound r own far x s bytes f long side room =
+    let w = take (x .waiting) s in
+    let sender = not-false (sends (x .sides)) (or-first (not (sends (x .sides))) (x .finish) side) in
+    let e = put-sends far (x .sides) w _ bytes (x .outbound) (x .finish) (put-slot (x .waiting) bytes s long) in
+    let small = f .waiting in
+    let free = ltb-false (slotSize - x .waiting) (length bytes) room in
+    record {
+      seen = seen-path refl e refl;
+      formed =
+          record {
+            outbound = f .outbound;
+            inbound = f .inbound;
+            waiting = omega arith;
+            none = ap (λ (b : Bool). onlyIf (not b) (eqb (x .waiting + length bytes) 0)) sender;
+            finish = f .finish;
+            place = f .place;
+          };
+      lasts =
+          λ h _ _. ap isReady e
+          ∙ put-ready far (x .sides) w (x .outbound) (x .finish) bytes (or-second (not (sends (x .sides))) (x .finish) side) h;
+      lawful = tt;
+    }
+
+-- ---- open
+
+server-client : (r : Role) → isServer r ≡ false → isClient r ≡ true
+server-client role.Client e = refl
+server-client role.Server e = absurd (true≢false e)
+
+pub open-sound : (r : Role) (own far : Ration) (x : Session) (s : List ℕ) → Formed r true x
+    → Takes (Sound r own far x s (opens ∷ []) [] s) (openAsk r x)
+unfolding openAsk fold
+open-sound r own far x s f client = go (x .sides) refl
+  where
+    starts : (b : Before) → endsOf (sides.Opening b) ≡ endsOf (x .sides) → Sound r own far x s (opens ∷ []) [] s (record { session = opened b x; sent = []; late = false })
+    starts b e =
+        record {
+          seen = seen-path e refl refl;
+          formed =
+              record {
+                outbound = f .outbound;
+                inbound = f .inbound;
+                waiting = omega arith;
+                none = refl;
+                finish = refl;
+                place = and-both (server-client r client) refl;
+              };
+          lasts = λ _ _ _. refl;
+          lawful = tt;
+        }
+
+    go : (z : Sides) → x .sides ≡ z → Takes (Sound r own far x s (opens ∷ []) [] s) (openOf x z)
+    go sides.Idle e = starts before.Idle (sym (ap endsOf e))
+    go (sides.Opening b) e = tt
+    go (sides.Live side.Open t) e = tt
+    go (sides.Live side.Finished side.Open) e = tt
+    go (sides.Live side.Finished side.Finished) e = tt
+    go (sides.Live side.Finished side.Ended) e = starts before.Finished (sym (ap endsOf e))
+    go (sides.Live side.Ended side.Open) e = tt
+    go (sides.Live side.Ended side.Finished) e = tt
+    go (sides.Live side.Ended side.Ended) e = starts before.Ended (sym (ap endsOf e))
+
+-- ---- grant
+
+grantable-range : (r : Ration) (n : ℕ) → grantable r n ≡ true → inRange (plus r n) ≡ true
+grantable-range (ration.Finite left) n e = e
+grantable-range ration.Endless n e = refl
+
+pub grant-sound : (r : Role) (own far : Ration) (x : Session) (s : List ℕ) (n : ℕ) → Formed r true x
+    → Takes (Sound r own far x s [] [] s) (grantAsk x n)
+unfolding grantAsk fold
+grant-sound r own far x s n f standing amount sum =
+    let range = grantable-range (x .inbound) n (not-false (grantable (x .inbound) n) sum) in
+    let small : n ≤ 65_535 = ltb-false 65_535 n (or-second (eqb n 0) (ltb 65_535 n) amount) in
+    record {
+      seen = refl;
+      formed = record { outbound = f .outbound; inbound = range; waiting = f .waiting; none = f .none; finish = f .finish; place = f .place };
+      lasts = λ h _ _. h;
+      lawful = (go (x .sides) (not-false (mayGrant (x .sides)) standing) range, omega arith, tt);
+    }
+  where
+    go : (z : Sides) → mayGrant z ≡ true → inRange (plus (x .inbound) n) ≡ true → permitsOurs (endsOf z) (look far x s) (increment-of n) ≡ true
+    go sides.Idle e h = absurd (false≢true e)
+    go (sides.Opening b) e h = absurd (false≢true e)
+    go (sides.Live side.Open side.Open) e h = h
+    go (sides.Live side.Open side.Finished) e h = absurd (false≢true e)
+    go (sides.Live side.Open side.Ended) e h = absurd (false≢true e)
+    go (sides.Live side.Finished side.Open) e h = h
+    go (sides.Live side.Finished side.Finished) e h = absurd (false≢true e)
+    go (sides.Live side.Finished side.Ended) e h = absurd (false≢true e)
+    go (sides.Live side.Ended t) e h = absurd (false≢true e)
+
+-- ---- abort
+
+-- our side ends and what waited is dropped
+ended-formed : {r : Role} {x : Session} (t : Side) (y : Session) → Formed r true x → y .sides ≡ sides.Live side.Ended t → y .outbound ≡ x .outbound
+    → y .inbound ≡ x .inbound → y .waiting ≡ 0 → y .finish ≡ false → Formed r true y
+ended-formed t y f z o i w n =
+    record {
+      outbound = ap inRange o ∙ f .outbound;
+      inbound = ap inRange i ∙ f .inbound;
+      waiting = omega (arith, w);
+      none = rw (z, w);
+      finish = rw n;
+      place = rw z;
+    }
+
+pub abort-sound : (r : Role) (own far : Ration) (x : Session) (s : List ℕ) (partial : Bool) → Formed r true x
+    → Takes (Sound r own far x s (aborts ∷ []) [] s) (abortAsk r x partial)
+unfolding abortAsk fold
+abort-sound r own far x s partial f role = go (x .sides) refl
+  where
+    lapsed : {A : Type 0} → true ≡ false → A
+    lapsed e = absurd (true≢false e)
+
+    dropping : (o t : Side) → x .sides ≡ sides.Live o t → established o ≡ true
+        → Takes (Sound r own far x s (aborts ∷ []) [] s) (aborting partial t x)
+    dropping o t e h =
+        record {
+          seen = seen-path (sym (ap (λ (z : Sides). ours side.Ended (endsOf z)) e)) refl refl;
+          formed = ended-formed t _ f refl refl refl refl refl;
+          lasts = λ _ q _. lapsed q;
+          lawful = (ap (λ (z : Sides). permitsOurs (endsOf z) (observe own far (look far x s) aborts) (abort-of partial)) e ∙ h, tt, tt);
+        }
+
+    restoring : (b : Before) → x .sides ≡ sides.Opening b
+        → Sound r own far x s (aborts ∷ []) [] s (record { session = dropped (sided (restored b) (settled outcome.MayRetry x)); sent = []; late = false })
+    restoring before.Idle e =
+        record {
+          seen = seen-path (sym (ap endsOf e)) refl refl;
+          formed = record { outbound = f .outbound; inbound = f .inbound; waiting = omega arith; none = refl; finish = refl; place = refl };
+          lasts = λ _ q _. lapsed q;
+          lawful = tt;
+        }
+    restoring before.Finished e =
+        record {
+          seen = seen-path (sym (ap endsOf e)) refl refl;
+          formed = record { outbound = f .outbound; inbound = f .inbound; waiting = omega arith; none = refl; finish = refl; place = refl };
+          lasts = λ _ q _. lapsed q;
+          lawful = tt;
+        }
+    restoring before.Ended e =
+        record {
+          seen = seen-path (sym (ap endsOf e)) refl refl;
+          formed = record { outbound = f .outbound; inbound = f .inbound; waiting = omega arith; none = refl; finish = refl; place = refl };
+          lasts = λ _ q _. lapsed q;
+          lawful = tt;
+        }
+
+    go : (z : Sides) → x .sides ≡ z → Takes (Sound r own far x s (aborts ∷ []) [] s) (abortOf x partial z)
+    go sides.Idle e = tt
+    go (sides.Opening b) e = restoring b e
+    go (sides.Live side.Open t) e = dropping side.Open t e refl
+    go (sides.Live side.Finished side.Open) e = dropping side.Finished side.Open e refl
+    go (sides.Live side.Finished side.Finished) e = dropping side.Finished side.Finished e refl
+    go (sides.Live side.Finished side.Ended) e = tt
+    go (sides.Live side.Ended t) e = tt
+
+-- ---- close
+
+pub close-sound : (r : Role) (own far : Ration) (x : Session) (s : List ℕ) → Formed r true x
+    → Takes (Sound r own far x s [] [] s) (closeAsk r x)
+unfolding closeAsk fold
+close-sound r own far x s f role = go (x .sides) refl
+  where
+    go : (z : Sides) → x .sides ≡ z → Takes (Sound r own far x s [] [] s) (closeOf x z)
+    go sides.Idle e = tt
+    go (sides.Opening b) e = tt
+    go (sides.Live side.Open t) e = tt
+    go (sides.Live side.Finished t) e =
+        record {
+          seen =
+              seen-path (sym (ap (λ (z : Sides). ours side.Ended (endsOf z)) e))
+              (sym (ap (λ (z : Sides). sendsOf far z (take (x .waiting) s) (x .outbound) (x .finish)) e)) refl;
+          formed =
+              record {
+                outbound = f .outbound;
+                inbound = f .inbound;
+                waiting = f .waiting;
+                none = rw e at (f .none);
+                finish = rw e at (f .finish);
+                place = refl;
+              };
+          lasts = λ h _ _. absurd (false≢true (rw e at h));
+          lawful = (ap (λ (z : Sides). permitsOurs (endsOf z) (look far x s) close-of) e, tt, tt);
+        }
+    go (sides.Live side.Ended t) e = tt

@@ -1,0 +1,7 @@
+-- What follows from the rules, one session at a time.
+pub mod Plans
+pub mod Views
+pub mod Sound
+pub mod Asks
+pub mod Turns
+pub mod Receipts

@@ -1,0 +1,31 @@
+-- What a rule comes to: one law for each way through its checks, and what holds where it takes.
+use mathlib.Core.Path.{_≡_, refl}
+use mathlib.Core.Bool.{Bool, true, false}
+use Prim.Native.Nat.{ℕ}
+use Rattle.protocol.specs.Plan.{Plan, stop, check, take, settle, andThen}
+
+module _ {A B : Type 0} (bad : ℕ → B) (good : A → B) where
+  pub stops : {b : Bool} (n : ℕ) (p : Plan A) → b ≡ true → settle bad good (check b n p) ≡ bad n
+  unfolding settle
+  stops n p e = rw e
+
+  pub passes : {b : Bool} (n : ℕ) (p : Plan A) → b ≡ false → settle bad good (check b n p) ≡ settle bad good p
+  unfolding settle
+  passes n p e = rw e
+
+-- what holds of everything that a rule can take
+abbrev pub Takes : {A : Type 0} → (A → Type 0) → Plan A → Type 0
+Takes P (stop n) = Unit {0}
+Takes P (check b n p) = b ≡ false → Takes P p
+Takes P (take a) = P a
+
+pub takes-then : {A B : Type 0} (P : B → Type 0) (f : A → B) (p : Plan A) → Takes (λ a. P (f a)) p → Takes P (andThen f p)
+takes-then P f (stop n) h = tt
+takes-then P f (check b n p) h = λ e. takes-then P f p (h e)
+takes-then P f (take a) h = h
+
+-- a rule takes exactly where the test holds
+abbrev pub Exactly : {A : Type 0} → Bool → Plan A → Type 0
+Exactly t (stop n) = t ≡ false
+Exactly t (check b n p) = (b ≡ true → t ≡ false) × (b ≡ false → Exactly t p)
+Exactly t (take a) = t ≡ true

@@ -1,0 +1,152 @@
+-- A turn keeps what is observed of the session that it serves, and sends what is observed to wait.
+use mathlib.Core.Path.{_≡_, refl, sym, ap, _∙_}
+use mathlib.Core.Bool.{Bool, true, false, not, _&&_, _||_, true≢false, false≢true, and-true}
+use mathlib.Core.List.{List, [], _∷_, _++_}
+use Prim.Native.Nat.{ℕ, _+_, _-_, _≤_, min}
+use native.Mathlib.Omega.{arith}
+use lib.ListN.{length, take, drop, length-take, length-drop}
+use lib.Seq.{take-at, length-take-le}
+use lib.Dec.{eqb, leb}
+use borrow.Author.Tests.{le-leb, eqb-true}
+use Rattle.laws.specs.Runs.{fold}
+use Rattle.laws.proofs.Lists.{take-drop}
+use Rattle.laws.proofs.Tests.{and-first, and-second, and-both}
+use Rattle.ration.specs.declared.Ration.{Ration}
+use Rattle.ration.specs.declared.Ration.the-variants as ration
+use Rattle.ration.specs.Ration.{inRange, allows, minus}
+use Rattle.ration.proofs.Laws.{minus-in-range}
+use Rattle.wire.specs.declared.Role.{Role}
+use Rattle.wire.specs.declared.Role.the-variants as role
+use Rattle.wire.specs.Message.{isClient, onlyIf}
+use Rattle.protocol.specs.declared.Side.{Side}
+use Rattle.protocol.specs.declared.Side.the-variants as side
+use Rattle.protocol.specs.declared.Before.{Before}
+use Rattle.protocol.specs.declared.Before.the-variants as before
+use Rattle.protocol.specs.declared.Sides.{Sides}
+use Rattle.protocol.specs.declared.Sides.the-variants as sides
+use Rattle.protocol.specs.declared.Session.{Session}
+use Rattle.protocol.specs.Slot.{slotSize}
+use Rattle.protocol.specs.Queue.{turnSlot}
+use Rattle.protocol.specs.Message.{data-of}
+use Rattle.protocol.specs.Session.{afterData}
+use Rattle.protocol.specs.Ask.{smaller, lastData, sends, sending as sendingOf, turnOf, turnAsk}
+use Rattle.protocol.specs.Observed.{sending, withData, ours, mayOpen, permitsOurs, established}
+use Rattle.protocol.proofs.Plans.{Takes}
+use Rattle.protocol.proofs.Views.{endsOf, sendsOf, look, Formed, seen-path}
+use Rattle.protocol.proofs.Sound.{Sound}
+
+-- ---- the bytes that go and those that stay
+
+smaller-waiting : (w : ℕ) (r : Ration) → smaller w r ≤ w
+smaller-waiting w (ration.Finite n) = omega arith
+smaller-waiting w ration.Endless = omega arith
+
+smaller-allowed : (w : ℕ) (r : Ration) → allows r (smaller w r) ≡ true
+smaller-allowed w (ration.Finite n) = le-leb (min w n) n (omega arith)
+smaller-allowed w ration.Endless = refl
+
+turn-slot : (w n : ℕ) (s : List ℕ) → w ≤ length s → n ≤ w → take (w - n) (turnSlot w n s) ≡ drop n (take w s)
+turn-slot w n s h k =
+    take-at (take (w - n) (drop n s)) _ (w - n) (length-take-le (w - n) (drop n s) (simp length-drop (omega arith))) ∙ take-drop w n s k
+
+-- ---- the session after a turn
+
+module _ (x : Session) (n : ℕ) where
+  after-sends : (far : Ration) (t : Side) (w w′ : List ℕ) (r : Ration) (u : Bool) → w′ ≡ drop n w
+      → sendsOf far (sides.Live (afterData false (lastData x n)) t) w′ (minus r n) (x .finish && not (lastData x n)) ≡ withData n (lastData x n) (sending u w r (x .finish))
+  after-sends far t w w′ r u e = go (lastData x n)
+    where
+      go : (b : Bool) → sendsOf far (sides.Live (afterData false b) t) w′ (minus r n) (x .finish && not b) ≡ withData n b (sending u w r (x .finish))
+      go true = refl
+      go false = rw (e, and-true (x .finish))
+
+  after-none : (t : Side) → onlyIf (not (sends (sides.Live (afterData false (lastData x n)) t))) (eqb (x .waiting - n) 0) ≡ true
+  after-none t = go (lastData x n) refl
+    where
+      go : (b : Bool) → lastData x n ≡ b → onlyIf (not (sends (sides.Live (afterData false b) t))) (eqb (x .waiting - n) 0) ≡ true
+      go true e = and-second (x .finish) (eqb (x .waiting - n) 0) e
+      go false e = refl
+
+  after-finish : (t : Side) → onlyIf (x .finish && not (lastData x n)) (sends (sides.Live (afterData false (lastData x n)) t)) ≡ true
+  after-finish t = go (lastData x n) (x .finish)
+    where
+      go : (b f : Bool) → onlyIf (f && not b) (sends (sides.Live (afterData false b) t)) ≡ true
+      go true true = refl
+      go true false = refl
+      go false true = refl
+      go false false = refl
+
+-- ---- a turn
+
+may-open : (r : Role) (b : Before) → isClient r ≡ true → mayOpen r (endsOf (sides.Opening b)) ≡ true
+may-open role.Client before.Idle e = refl
+may-open role.Client before.Finished e = refl
+may-open role.Client before.Ended e = refl
+may-open role.Server b e = absurd (false≢true e)
+
+only-if-true : (a b : Bool) → b ≡ true → onlyIf a b ≡ true
+only-if-true true b e = e
+only-if-true false b e = refl
+
+pub turn-sound : (r : Role) (own far : Ration) (x : Session) (s : List ℕ) → Formed r true x → inRange own ≡ true → inRange far ≡ true → x .waiting ≤ length s
+    → Takes (λ t. Sound r own far x s [] s (turnSlot (x .waiting) (x .waiting - t .session .waiting) s) t) (turnAsk own far x)
+unfolding turnAsk fold
+turn-sound r own far x s f ho hf long = go (x .sides) refl
+  where
+    stays : (n : ℕ) → n ≤ x .waiting → take (x .waiting - n) (turnSlot (x .waiting) (x .waiting - (x .waiting - n)) s) ≡ drop n (take (x .waiting) s)
+    stays n h = let e : x .waiting - (x .waiting - n) ≡ n = omega arith in
+        ap (λ (k : ℕ). take (x .waiting - n) (turnSlot (x .waiting) k s)) e ∙ turn-slot (x .waiting) n s long h
+
+    go : (z : Sides) → x .sides ≡ z → Takes (λ t. Sound r own far x s [] s (turnSlot (x .waiting) (x .waiting - t .session .waiting) s) t) (turnOf own far x z)
+    go sides.Idle e = tt
+    go (sides.Opening b) e =
+        let n = smaller (x .waiting) far in
+        let k = smaller-waiting (x .waiting) far in
+        let small = f .waiting in
+        let client = and-first (isClient r) true (rw e at (f .place)) in
+        record {
+          seen =
+              seen-path refl
+              (after-sends x n far side.Open (take (x .waiting) s) _ far true (stays n k)
+              ∙ sym (ap (λ (z : Sides). withData n (lastData x n) (sendsOf far z (take (x .waiting) s) (x .outbound) (x .finish))) e)) refl;
+          formed =
+              record {
+                outbound = minus-in-range far n hf;
+                inbound = ho;
+                waiting = omega arith;
+                none = after-none x n side.Open;
+                finish = after-finish x n side.Open;
+                place = refl;
+              };
+          lasts = λ _ _ q. absurd (true≢false q);
+          lawful =
+              (and-both (and-both client (ap (λ (z : Sides). mayOpen r (endsOf z)) e ∙ may-open r b client)) (smaller-allowed (x .waiting) far), omega arith, tt);
+        }
+    go (sides.Live side.Open t) e = λ due.
+        let n = smaller (x .waiting) (x .outbound) in
+        let k = smaller-waiting (x .waiting) (x .outbound) in
+        let small = f .waiting in
+        record {
+          seen =
+              seen-path (sym (ap (λ (z : Sides). ours (afterData false (lastData x n)) (endsOf z)) e))
+              (after-sends x n far t (take (x .waiting) s) _ (x .outbound) false (stays n k)
+              ∙ sym (ap (λ (z : Sides). withData n (lastData x n) (sendsOf far z (take (x .waiting) s) (x .outbound) (x .finish))) e)) refl;
+          formed =
+              record {
+                outbound = minus-in-range (x .outbound) n (f .outbound);
+                inbound = f .inbound;
+                waiting = omega arith;
+                none = after-none x n t;
+                finish = after-finish x n t;
+                place = refl;
+              };
+          lasts = λ _ _ q. absurd (true≢false q);
+          lawful = (
+            ap (λ (z : Sides). permitsOurs (endsOf z) (record { standing = endsOf z; sends = sendsOf far z (take (x .waiting) s) (x .outbound) (x .finish); inbound = x .inbound }) (data-of n false false (lastData x n) false)) e
+                ∙ only-if-true (established t) (allows (x .outbound) n) (smaller-allowed (x .waiting) (x .outbound)),
+            omega arith,
+            tt,
+          );
+        }
+    go (sides.Live side.Finished t) e = tt
+    go (sides.Live side.Ended t) e = tt

@@ -1,0 +1,110 @@
+-- One end of a connection: just made, well formed, and how it ends.
+use Prim.Native.Nat.{ℕ}
+use mathlib.Core.Bool.{Bool, true, false, not, _&&_, _||_}
+use mathlib.Core.List.{List, [], _∷_, map}
+use lib.ListN.{getD, set, replicate}
+use lib.Dec.{eqb, ltb, leb}
+use Rattle.ration.specs.declared.Ration.{Ration}
+use Rattle.ration.specs.declared.Ration.the-variants as ration
+use Rattle.ration.specs.Ration.{fromHeader, inRange}
+use Rattle.wire.specs.declared.Role.{Role}
+use Rattle.wire.specs.declared.Role.the-variants as role
+use Rattle.wire.specs.Message.{isClient, onlyIf}
+use Rattle.protocol.specs.declared.Sides.{Sides}
+use Rattle.protocol.specs.declared.Sides.the-variants as sides
+use Rattle.protocol.specs.declared.Outcome.{Outcome}
+use Rattle.protocol.specs.declared.Outcome.the-variants as outcome
+use Rattle.protocol.specs.declared.Session.{Session}
+use Rattle.protocol.specs.declared.Stage.{Stage}
+use Rattle.protocol.specs.declared.Stage.the-variants as stage
+use Rattle.protocol.specs.declared.Ping.{Ping}
+use Rattle.protocol.specs.declared.Ping.the-variants as ping
+use Rattle.protocol.specs.declared.Connection.{Connection}
+use Rattle.protocol.specs.declared.Setup.{Setup}
+use Rattle.protocol.specs.Slot.{slotSize}
+use Rattle.protocol.specs.Session.{blank, settled}
+use Rattle.protocol.specs.Ask.{sends}
+
+-- a connection just made: number 0 is first in turn
+abbrev pub fresh : Setup → Connection
+fresh s =
+    record {
+      sessions = replicate 128 blank;
+      stage = stage.Fresh (s .role);
+      over = false;
+      own = s .header;
+      last = 127;
+      ping = ping.None;
+    }
+
+-- the session of a number
+abbrev pub at : Connection → ℕ → Session
+at c n = getD (c .sessions) n blank
+
+abbrev pub roleOf : Stage → Role
+roleOf (stage.Fresh r) = r
+roleOf stage.Started = role.Client
+roleOf (stage.Up r far) = r
+
+-- the headers are exchanged
+abbrev pub exchanged : Stage → Bool
+exchanged (stage.Fresh r) = false
+exchanged stage.Started = false
+exchanged (stage.Up r far) = true
+
+-- the starting rations that our header and the far one grant
+abbrev pub ownStart : Connection → Ration
+ownStart c = fromHeader (c .own)
+
+abbrev pub farNumber : Stage → ℕ
+farNumber (stage.Fresh r) = 0
+farNumber stage.Started = 0
+farNumber (stage.Up r far) = far
+
+abbrev pub farStart : Connection → Ration
+farStart c = fromHeader (farNumber (c .stage))
+
+-- ---- well formed
+
+-- no opening at a server, all numbers idle before the headers
+abbrev pub placed : Role → Bool → Sides → Bool
+placed r up sides.Idle = true
+placed r up (sides.Opening b) = isClient r && up
+placed r up (sides.Live ours theirs) = up
+
+-- finite rations in range, waiting at most a slot and 0 unless our side is opening or open, finish asked only there
+unfoldable pub sessionFormed : Role → Bool → Session → Bool
+sessionFormed r up x =
+    inRange (x .outbound) && inRange (x .inbound) && leb (x .waiting) slotSize && onlyIf (not (sends (x .sides))) (eqb (x .waiting) 0)
+    && onlyIf (x .finish) (sends (x .sides)) && placed r up (x .sides)
+
+unfoldable pub allFormed : Role → Bool → List Session → Bool
+allFormed r up [] = true
+allFormed r up (x ∷ xs) = sessionFormed r up x && allFormed r up xs
+
+-- and last served at most 127
+unfoldable pub wellFormed : Connection → Bool
+wellFormed c = ltb (c .last) 128 && allFormed (roleOf (c .stage)) (exchanged (c .stage)) (c .sessions)
+
+-- ---- how a connection ends
+
+pub data Cause : Type 0 where
+  shutdown-received error-received own-shutdown line-lost : Cause
+
+-- Error or a lost line: a session that was sent must not be retried, an opening may be
+abbrev pub unlessSent : Sides → Outcome
+unlessSent sides.Idle = outcome.MustNotRetry
+unlessSent (sides.Opening b) = outcome.MayRetry
+unlessSent (sides.Live ours theirs) = outcome.MustNotRetry
+
+-- what becomes of a session that runs when the connection ends
+abbrev pub ending : Cause → Session → Session
+ending shutdown-received x = settled outcome.MayRetry x
+ending error-received x = settled (unlessSent (x .sides)) x
+ending own-shutdown x = x
+ending line-lost x = settled (unlessSent (x .sides)) x
+
+-- the connection is over; nothing else changes but outcomes
+abbrev pub ended : Cause → Connection → Connection
+ended cause c =
+    record { sessions = map (ending cause) (c .sessions); stage = c .stage; over = true; own = c .own; last = c .last; ping = c .ping }

@@ -1,0 +1,177 @@
+-- What a message received does to the connection: the judging sees no bytes.
+use Prim.Native.Nat.{ℕ}
+use mathlib.Core.Bool.{Bool, true, false, not}
+use mathlib.Core.List.{List, [], _∷_, map}
+use lib.Dec.{eqb}
+use lib.ListN.{set}
+use Rattle.wire.specs.declared.Role.{Role}
+use Rattle.wire.specs.declared.Role.the-variants as role
+use Rattle.wire.specs.declared.Message.{Message}
+use Rattle.wire.specs.declared.Message.the-variants as msg
+use Rattle.protocol.specs.declared.Session.{Session}
+use Rattle.protocol.specs.declared.Stage.{Stage}
+use Rattle.protocol.specs.declared.Stage.the-variants as stage
+use Rattle.protocol.specs.declared.Ping.{Ping}
+use Rattle.protocol.specs.declared.Ping.the-variants as ping
+use Rattle.protocol.specs.declared.Connection.{Connection}
+use Rattle.protocol.specs.Plan.{Plan, stop, check, take, settle}
+use Rattle.protocol.specs.Message.{SessionMessage, Scope, whole, of-session, scope, numbered}
+use Rattle.protocol.specs.Receipt.{Taken, receipt}
+use Rattle.protocol.specs.Connection.{Cause, shutdown-received, error-received, line-lost, at, roleOf, ownStart, farStart, ended}
+
+-- what a call that is taken reports
+pub data Report : Type 0 where
+  done : Report
+  served : ℕ → Report
+  header : ℕ → Report
+  message : Message → Bool → Report
+
+-- what is written: our connection header, or a message
+pub data Out : Type 0 where
+  opening : ℕ → Out
+  sent : Message → Out
+
+-- whether the connection ends with the call
+pub data Ending : Type 0 where
+  goes-on : Ending
+  ends : Cause → Ending
+
+-- what a call that is taken does: the session of one number, the rest of the connection, the report, what is written
+pub record Effect : Type 0 where
+  pub number : ℕ
+  pub session : Session
+  pub stage : Stage
+  pub last : ℕ
+  pub ping : Ping
+  pub ending : Ending
+  pub report : Report
+  pub outs : List Out
+
+-- a violation carries how the connection ends by it, and its reply
+pub record Breach : Type 0 where
+  pub code : ℕ
+  pub cause : Cause
+  pub reply : List Out
+
+pub data Decision : Type 0 where
+  refuse : ℕ → Decision
+  violate : Breach → Decision
+  accept : Effect → Decision
+
+-- ---- effects
+
+-- nothing changes but what is said
+abbrev pub unchanged : Connection → Report → List Out → Effect
+unchanged c r outs =
+    record {
+      number = 0;
+      session = at c 0;
+      stage = c .stage;
+      last = c .last;
+      ping = c .ping;
+      ending = goes-on;
+      report = r;
+      outs = outs;
+    }
+
+abbrev pub ends-by : Connection → Cause → Report → List Out → Effect
+ends-by c cause r outs =
+    record {
+      number = 0;
+      session = at c 0;
+      stage = c .stage;
+      last = c .last;
+      ping = c .ping;
+      ending = ends cause;
+      report = r;
+      outs = outs;
+    }
+
+abbrev pub with-ping : Connection → Ping → Report → List Out → Effect
+with-ping c p r outs =
+    record {
+      number = 0;
+      session = at c 0;
+      stage = c .stage;
+      last = c .last;
+      ping = p;
+      ending = goes-on;
+      report = r;
+      outs = outs;
+    }
+
+abbrev pub with-stage : Connection → Stage → Report → List Out → Effect
+with-stage c s r outs =
+    record {
+      number = 0;
+      session = at c 0;
+      stage = s;
+      last = c .last;
+      ping = c .ping;
+      ending = goes-on;
+      report = r;
+      outs = outs;
+    }
+
+-- what was taken for one session: the connection adds the number to what is written
+abbrev pub with-session : Connection → ℕ → ℕ → Report → Taken → Effect
+with-session c n last r t =
+    record {
+      number = n;
+      session = t .session;
+      stage = c .stage;
+      last = last;
+      ping = c .ping;
+      ending = goes-on;
+      report = r;
+      outs = map (λ m. sent (numbered n m)) (t .sent);
+    }
+
+abbrev pub continued : Ending → Connection → Connection
+continued goes-on c = c
+continued (ends cause) c = ended cause c
+
+-- the connection after a call that is taken
+abbrev pub commit : Connection → Effect → Connection
+commit c e =
+    continued (e .ending)
+    (record { sessions = set (c .sessions) (e .number) (e .session); stage = e .stage; over = c .over; own = c .own; last = e .last; ping = e .ping })
+
+-- ---- the judging of a message
+
+-- a server that has not sent its header sends it before the Error
+abbrev pub errorAfter : Stage → ℕ → List Out
+errorAfter (stage.Fresh r) own = opening own ∷ sent (msg.Error 0) ∷ []
+errorAfter stage.Started own = sent (msg.Error 0) ∷ []
+errorAfter (stage.Up r far) own = sent (msg.Error 0) ∷ []
+
+-- a violation found by us counts as a lost line
+abbrev pub breach : Connection → ℕ → Decision
+breach c n = violate (record { code = n; cause = line-lost; reply = errorAfter (c .stage) (c .own) })
+
+abbrev pub matches : Ping → ℕ → Bool
+matches ping.None k = false
+matches (ping.Outstanding j) k = eqb j k
+
+-- a message of the connection as a whole: 28 for a PingAck that matches no outstanding cookie
+abbrev pub judgeWhole : Connection → Message → Plan Effect
+judgeWhole c (msg.NoOperation n) = take (unchanged c (message (msg.NoOperation n) false) [])
+judgeWhole c (msg.Shutdown n) = take (ends-by c shutdown-received (message (msg.Shutdown n) false) [])
+judgeWhole c (msg.Ping k) = take (unchanged c (message (msg.Ping k) false) (sent (msg.PingAck k) ∷ []))
+judgeWhole c (msg.PingAck k) =
+    check (not (matches (c .ping) k)) 28 (take (with-ping c ping.None (message (msg.PingAck k) false) []))
+judgeWhole c (msg.Error n) = take (ends-by c error-received (message (msg.Error n) false) [])
+judgeWhole c (msg.IncrementRation s i n) = stop 25
+judgeWhole c (msg.Abort p i n) = stop 25
+judgeWhole c (msg.Close i) = stop 25
+judgeWhole c (msg.Acknowledgment i) = stop 25
+judgeWhole c (msg.Data o k e a i n) = stop 25
+
+abbrev pub judgeScope : Connection → Message → Scope → Decision
+judgeScope c m whole = settle (breach c) accept (judgeWhole c m)
+judgeScope c m (of-session i s) =
+    settle (breach c) (λ t. accept (with-session c i (c .last) (message m (t .late)) t))
+    (receipt (roleOf (c .stage)) (ownStart c) (farStart c) (at c i) s)
+
+unfoldable pub judge : Connection → Message → Decision
+judge c m = judgeScope c m (scope m)

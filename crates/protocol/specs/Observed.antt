@@ -1,0 +1,232 @@
+-- What calls, their answers and the messages on the line tell of one session number. No state of the engine is named.
+use Prim.Native.Nat.{ℕ, _-_}
+use mathlib.Core.Bool.{Bool, true, false, not, _&&_, _||_}
+use mathlib.Core.List.{List, [], _∷_, _++_}
+use lib.ListN.{length, drop}
+use lib.Dec.{eqb}
+use Rattle.ration.specs.declared.Ration.{Ration}
+use Rattle.ration.specs.declared.Ration.the-variants as ration
+use Rattle.ration.specs.Ration.{allows, inRange, plus, minus}
+use Rattle.wire.specs.declared.Role.{Role}
+use Rattle.wire.specs.declared.Role.the-variants as role
+use Rattle.wire.specs.Message.{isClient, onlyIf}
+use Rattle.protocol.specs.declared.Side.{Side}
+use Rattle.protocol.specs.declared.Side.the-variants as side
+use Rattle.protocol.specs.Message.{SessionMessage, data-of, increment-of, abort-of, close-of, acknowledgment-of}
+use Rattle.protocol.specs.Session.{afterData}
+use Rattle.protocol.specs.Ask.{positive}
+
+-- what happens to a session number: a call of ours is taken, a message is taken (late or not), a message is written
+pub data Event : Type 0 where
+  opens finishes aborts : Event
+  puts : List ℕ → Event
+  received : SessionMessage → Bool → Event
+  wrote : SessionMessage → List ℕ → Event
+
+-- ---- whether it sends
+
+-- a session sends, or it does not; if it does: whether it is unsent, the bytes waiting, the ration, whether finish was taken
+pub data Sending : Type 0 where
+  silent : Sending
+  sending : Bool → List ℕ → Ration → Bool → Sending
+
+abbrev pub withPut : List ℕ → Sending → Sending
+withPut bytes silent = silent
+withPut bytes (sending unsent waiting r finish) = sending unsent (waiting ++ bytes) r finish
+
+abbrev pub withFinish : Sending → Sending
+withFinish silent = silent
+withFinish (sending unsent waiting r finish) = sending unsent waiting r true
+
+abbrev pub withIncrement : ℕ → Sending → Sending
+withIncrement n silent = silent
+withIncrement n (sending unsent waiting r finish) = sending unsent waiting (plus r n) finish
+
+-- Data written: its length is taken from what waits and from the ration; with eof the session sends no more
+abbrev pub withData : ℕ → Bool → Sending → Sending
+withData n eof silent = silent
+withData n true (sending unsent waiting r finish) = silent
+withData n false (sending unsent waiting r finish) = sending false (drop n waiting) (minus r n) finish
+
+-- a session begins with a client's open or a server's receipt of an open Data message, at the far header's start
+abbrev pub sendsAfter : Ration → Sending → Event → Sending
+sendsAfter far v opens = sending true [] far false
+sendsAfter far v finishes = withFinish v
+sendsAfter far v aborts = silent
+sendsAfter far v (puts bytes) = withPut bytes v
+sendsAfter far v (received (data-of n true close eof ack) late) = sending false [] far false
+sendsAfter far v (received (data-of n false close eof ack) late) = v
+sendsAfter far v (received (increment-of n) true) = v
+sendsAfter far v (received (increment-of n) false) = withIncrement n v
+sendsAfter far v (received (abort-of partial) late) = v
+sendsAfter far v (received close-of late) = v
+sendsAfter far v (received acknowledgment-of late) = v
+sendsAfter far v (wrote (data-of n begins close eof ack) payload) = withData n eof v
+sendsAfter far v (wrote (increment-of n) payload) = v
+sendsAfter far v (wrote (abort-of partial) payload) = silent
+sendsAfter far v (wrote close-of payload) = v
+sendsAfter far v (wrote acknowledgment-of payload) = v
+
+-- ---- ready
+
+abbrev pub isEmpty : List ℕ → Bool
+isEmpty [] = true
+isEmpty (b ∷ bs) = false
+
+-- its opening is unsent, or it has bytes waiting and ration left, or nothing waiting and its end to announce
+abbrev pub isReady : Sending → Bool
+isReady silent = false
+isReady (sending true waiting r finish) = true
+isReady (sending false waiting r finish) = not (isEmpty waiting) && positive r || isEmpty waiting && finish
+
+-- what ends a wait beside the number's own Data: its abort, or an Abort, Close or close flag received
+abbrev pub lapses : Event → Bool
+lapses opens = false
+lapses finishes = false
+lapses aborts = true
+lapses (puts bytes) = false
+lapses (received (data-of n begins close eof ack) late) = close
+lapses (received (increment-of n) late) = false
+lapses (received (abort-of partial) late) = true
+lapses (received close-of late) = true
+lapses (received acknowledgment-of late) = false
+lapses (wrote m payload) = false
+
+-- ---- where each end stands, in the words of 002
+
+-- the session that a number last named: established with respect to an end (open), also finished, or terminated (ended)
+pub data Ends : Type 0 where
+  unused : Ends
+  ends : Side → Side → Ends
+
+-- our end, the other stays
+abbrev pub ours : Side → Ends → Ends
+ours s unused = unused
+ours s (ends o t) = ends s t
+
+abbrev pub theirs : Side → Ends → Ends
+theirs s unused = unused
+theirs s (ends o t) = ends o s
+
+-- an open Data message establishes a session with respect to both ends
+abbrev pub endsAfter : Ends → Event → Ends
+endsAfter v opens = v
+endsAfter v finishes = v
+endsAfter v aborts = v
+endsAfter v (puts bytes) = v
+endsAfter v (received (data-of n true close eof ack) late) = ends side.Open (afterData close eof)
+endsAfter v (received (data-of n false close eof ack) late) = theirs (afterData close eof) v
+endsAfter v (received (increment-of n) late) = v
+endsAfter v (received (abort-of partial) late) = theirs side.Ended v
+endsAfter v (received close-of late) = theirs side.Ended v
+endsAfter v (received acknowledgment-of late) = v
+endsAfter v (wrote (data-of n true close eof ack) payload) = ends (afterData close eof) side.Open
+endsAfter v (wrote (data-of n false close eof ack) payload) = ours (afterData close eof) v
+endsAfter v (wrote (increment-of n) payload) = v
+endsAfter v (wrote (abort-of partial) payload) = ours side.Ended v
+endsAfter v (wrote close-of payload) = ours side.Ended v
+endsAfter v (wrote acknowledgment-of payload) = v
+
+-- ---- what the far end may still send: our start, plus what was granted, less the Data taken and not late
+
+abbrev pub inboundAfter : Ration → Ration → Event → Ration
+inboundAfter own v opens = v
+inboundAfter own v finishes = v
+inboundAfter own v aborts = v
+inboundAfter own v (puts bytes) = v
+inboundAfter own v (received (data-of n true close eof ack) late) = minus own n
+inboundAfter own v (received (data-of n false close eof ack) true) = v
+inboundAfter own v (received (data-of n false close eof ack) false) = minus v n
+inboundAfter own v (received (increment-of n) late) = v
+inboundAfter own v (received (abort-of partial) late) = v
+inboundAfter own v (received close-of late) = v
+inboundAfter own v (received acknowledgment-of late) = v
+inboundAfter own v (wrote (data-of n true close eof ack) payload) = own
+inboundAfter own v (wrote (data-of n false close eof ack) payload) = v
+inboundAfter own v (wrote (increment-of n) payload) = plus v n
+inboundAfter own v (wrote (abort-of partial) payload) = v
+inboundAfter own v (wrote close-of payload) = v
+inboundAfter own v (wrote acknowledgment-of payload) = v
+
+-- ---- all that is told of a number
+
+pub record Seen : Type 0 where
+  pub standing : Ends
+  pub sends : Sending
+  pub inbound : Ration
+
+-- `own` and `far` are the starting rations that our header and theirs grant
+abbrev pub observe : Ration → Ration → Seen → Event → Seen
+observe own far v e =
+    record {
+      standing = endsAfter (v .standing) e;
+      sends = sendsAfter far (v .sends) e;
+      inbound = inboundAfter own (v .inbound) e;
+    }
+
+-- ---- what 002 lets an end send now
+
+-- a session is established with respect to an end that has not terminated it
+abbrev pub established : Side → Bool
+established side.Open = true
+established side.Finished = true
+established side.Ended = false
+
+abbrev pub unfinished : Side → Bool
+unfinished side.Open = true
+unfinished side.Finished = false
+unfinished side.Ended = false
+
+abbrev pub finished : Side → Bool
+finished side.Open = false
+finished side.Finished = true
+finished side.Ended = false
+
+-- a client may use the number anew: terminated with respect to the server, and to the client or finished by it
+abbrev pub reusable : Side → Side → Bool
+reusable client server = not (established server) && not (unfinished client)
+
+-- a message other than an open Data, from an end to the other; `r` is the ration of what it sends, `back` that of what it receives
+abbrev pub permits : Side → Side → Ration → Ration → SessionMessage → Bool
+permits sender receiver r back (data-of n begins close eof ack) =
+    not begins && unfinished sender && onlyIf (established receiver) (allows r n)
+permits sender receiver r back (increment-of n) = established sender && onlyIf (unfinished receiver) (inRange (plus back n))
+permits sender receiver r back (abort-of partial) = established sender
+permits sender receiver r back close-of = finished sender
+permits sender receiver r back acknowledgment-of = established sender
+
+abbrev pub rationOf : Sending → Ration
+rationOf silent = ration.Finite 0
+rationOf (sending unsent waiting r finish) = r
+
+-- whether a client may open the number, seen from the end of a role
+abbrev pub mayOpen : Role → Ends → Bool
+mayOpen r unused = true
+mayOpen role.Client (ends o t) = reusable o t
+mayOpen role.Server (ends o t) = reusable t o
+
+abbrev pub permitsOurs : Ends → Seen → SessionMessage → Bool
+permitsOurs unused v m = false
+permitsOurs (ends o t) v m = permits o t (rationOf (v .sends)) (v .inbound) m
+
+abbrev pub permitsTheirs : Ends → Seen → SessionMessage → Bool
+permitsTheirs unused v m = false
+permitsTheirs (ends o t) v m = permits t o (v .inbound) (rationOf (v .sends)) m
+
+-- our end may send the message now; an open Data of a client's spends the far start
+abbrev pub mayWrite : Role → Ration → Seen → SessionMessage → Bool
+mayWrite r far v (data-of n true close eof ack) = isClient r && mayOpen r (v .standing) && allows far n
+mayWrite r far v (data-of n false close eof ack) = permitsOurs (v .standing) v (data-of n false close eof ack)
+mayWrite r far v (increment-of n) = permitsOurs (v .standing) v (increment-of n)
+mayWrite r far v (abort-of partial) = permitsOurs (v .standing) v (abort-of partial)
+mayWrite r far v close-of = permitsOurs (v .standing) v close-of
+mayWrite r far v acknowledgment-of = permitsOurs (v .standing) v acknowledgment-of
+
+-- the far end may send the message now; an open Data to a server spends our start
+abbrev pub mayArrive : Role → Ration → Seen → SessionMessage → Bool
+mayArrive r own v (data-of n true close eof ack) = mayOpen r (v .standing) && allows own n
+mayArrive r own v (data-of n false close eof ack) = permitsTheirs (v .standing) v (data-of n false close eof ack)
+mayArrive r own v (increment-of n) = permitsTheirs (v .standing) v (increment-of n)
+mayArrive r own v (abort-of partial) = permitsTheirs (v .standing) v (abort-of partial)
+mayArrive r own v close-of = permitsTheirs (v .standing) v close-of
+mayArrive r own v acknowledgment-of = permitsTheirs (v .standing) v acknowledgment-of

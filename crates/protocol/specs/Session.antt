@@ -1,0 +1,97 @@
+-- A session, seen from one end: its sides, how its own messages move a side, and the ways in which a session is rebuilt.
+use Prim.Native.Nat.{ℕ, _+_, _-_}
+use mathlib.Core.Bool.{Bool, true, false}
+use Rattle.ration.specs.declared.Ration.{Ration}
+use Rattle.ration.specs.declared.Ration.the-variants as ration
+use Rattle.ration.specs.Ration.{plus, minus}
+use Rattle.protocol.specs.declared.Side.{Side}
+use Rattle.protocol.specs.declared.Side.the-variants as side
+use Rattle.protocol.specs.declared.Before.{Before}
+use Rattle.protocol.specs.declared.Before.the-variants as before
+use Rattle.protocol.specs.declared.Sides.{Sides}
+use Rattle.protocol.specs.declared.Sides.the-variants as sides
+use Rattle.protocol.specs.declared.Outcome.{Outcome}
+use Rattle.protocol.specs.declared.Outcome.the-variants as outcome
+use Rattle.protocol.specs.declared.Session.{Session}
+use Rattle.protocol.specs.Message.{SessionMessage, data-of, increment-of, abort-of, close-of, acknowledgment-of}
+
+-- a number that is idle and was never used
+abbrev pub blank : Session
+blank =
+    record {
+      sides = sides.Idle;
+      outbound = ration.Finite 0;
+      inbound = ration.Finite 0;
+      waiting = 0;
+      finish = false;
+      outcome = outcome.None;
+    }
+
+-- ---- a side's movement
+
+-- Data with close ends its sender, Data with eof finishes it
+abbrev pub afterData : Bool → Bool → Side
+afterData true eof = side.Ended
+afterData false true = side.Finished
+afterData false false = side.Open
+
+-- where a message other than an open Data leaves the side that sends it
+pub data Move : Type 0 where
+  to : Side → Move
+  wrong : Move
+
+-- any message from an ended side is wrong, Data from a finished one, Close from an unfinished one
+abbrev pub follow : Side → SessionMessage → Move
+follow side.Open (data-of n true close eof ack) = wrong
+follow side.Open (data-of n false close eof ack) = to (afterData close eof)
+follow side.Open (increment-of n) = to side.Open
+follow side.Open (abort-of partial) = to side.Ended
+follow side.Open close-of = wrong
+follow side.Open acknowledgment-of = to side.Open
+follow side.Finished (data-of n opens close eof ack) = wrong
+follow side.Finished (increment-of n) = to side.Finished
+follow side.Finished (abort-of partial) = to side.Ended
+follow side.Finished close-of = to side.Ended
+follow side.Finished acknowledgment-of = to side.Finished
+follow side.Ended m = wrong
+
+-- ---- outcomes
+
+-- only a running outcome changes
+abbrev pub becomes : Outcome → Outcome → Outcome
+becomes outcome.None new = outcome.None
+becomes outcome.Running new = new
+becomes outcome.Complete new = outcome.Complete
+becomes outcome.MayRetry new = outcome.MayRetry
+becomes outcome.MustNotRetry new = outcome.MustNotRetry
+
+-- ---- the ways in which a session is rebuilt
+
+abbrev pub sided : Sides → Session → Session
+sided z x = record { sides = z; outbound = x .outbound; inbound = x .inbound; waiting = x .waiting; finish = x .finish; outcome = x .outcome }
+
+-- nothing waits and no finish is asked
+abbrev pub dropped : Session → Session
+dropped x = record { sides = x .sides; outbound = x .outbound; inbound = x .inbound; waiting = 0; finish = false; outcome = x .outcome }
+
+abbrev pub settled : Outcome → Session → Session
+settled new x = record { sides = x .sides; outbound = x .outbound; inbound = x .inbound; waiting = x .waiting; finish = x .finish; outcome = becomes (x .outcome) new }
+
+-- n bytes of the inbound ration are spent
+abbrev pub received : ℕ → Session → Session
+received n x = record { sides = x .sides; outbound = x .outbound; inbound = minus (x .inbound) n; waiting = x .waiting; finish = x .finish; outcome = x .outcome }
+
+-- the outbound ration has grown by n
+abbrev pub incremented : ℕ → Session → Session
+incremented n x = record { sides = x .sides; outbound = plus (x .outbound) n; inbound = x .inbound; waiting = x .waiting; finish = x .finish; outcome = x .outcome }
+
+-- the inbound ration has grown by n
+abbrev pub extended : ℕ → Session → Session
+extended n x = record { sides = x .sides; outbound = x .outbound; inbound = plus (x .inbound) n; waiting = x .waiting; finish = x .finish; outcome = x .outcome }
+
+-- n bytes more wait
+abbrev pub queued : ℕ → Session → Session
+queued n x = record { sides = x .sides; outbound = x .outbound; inbound = x .inbound; waiting = x .waiting + n; finish = x .finish; outcome = x .outcome }
+
+abbrev pub finishing : Session → Session
+finishing x = record { sides = x .sides; outbound = x .outbound; inbound = x .inbound; waiting = x .waiting; finish = true; outcome = x .outcome }

@@ -1,0 +1,12 @@
+-- The sizes of the queue: 256 bytes for each of the 128 session numbers.
+use Prim.Native.Nat.{ℕ, _*_, _+_}
+
+abbrev pub slotSize : ℕ
+slotSize = 256
+
+abbrev pub queueSize : ℕ
+queueSize = 128 * slotSize
+
+-- the room that a turn asks for: a header and a slot
+abbrev pub turnRoom : ℕ
+turnRoom = 4 + slotSize
