@@ -54,7 +54,7 @@ finish-sends far (sides.Live side.Finished t) w r f = refl
 finish-sends far (sides.Live side.Ended t) w r f = refl
 
 pub finish-sound : (r : Role) (own far : Ration) (x : Session) (s : List ℕ) → Formed r true x
-    → Takes (Sound r own far x s (finishes ∷ []) [] s) (finishAsk x)
+    → Takes (Sound r own far x s (finishes ∷ []) s) (finishAsk x)
 unfolding finishAsk fold
 finish-sound r own far x s f side =
     let e = finish-sends far (x .sides) (take (x .waiting) s) (x .outbound) (x .finish) in
@@ -97,7 +97,7 @@ put-sends far (sides.Live side.Finished t) w w′ bytes r f e = refl
 put-sends far (sides.Live side.Ended t) w w′ bytes r f e = refl
 
 pub put-sound : (r : Role) (own far : Ration) (x : Session) (s bytes : List ℕ) → Formed r true x → x .waiting ≤ length s
-    → Takes (Sound r own far x s (puts bytes ∷ []) [] (putSlot (x .waiting) bytes s)) (putAsk x (length bytes))
+    → Takes (Sound r own far x s (puts bytes ∷ []) (putSlot (x .waiting) bytes s)) (putAsk x (length bytes))
 unfolding putAsk fold
 put-sound r own far x s bytes f long side room =
     let w = take (x .waiting) s in
@@ -129,11 +129,11 @@ server-client role.Client e = refl
 server-client role.Server e = absurd (true≢false e)
 
 pub open-sound : (r : Role) (own far : Ration) (x : Session) (s : List ℕ) → Formed r true x
-    → Takes (Sound r own far x s (opens ∷ []) [] s) (openAsk r x)
+    → Takes (Sound r own far x s (opens ∷ []) s) (openAsk r x)
 unfolding openAsk fold
 open-sound r own far x s f client = go (x .sides) refl
   where
-    starts : (b : Before) → endsOf (sides.Opening b) ≡ endsOf (x .sides) → Sound r own far x s (opens ∷ []) [] s (record { session = opened b x; sent = []; late = false })
+    starts : (b : Before) → endsOf (sides.Opening b) ≡ endsOf (x .sides) → Sound r own far x s (opens ∷ []) s (record { session = opened b x; sent = []; late = false })
     starts b e =
         record {
           seen = seen-path e refl refl;
@@ -150,7 +150,7 @@ open-sound r own far x s f client = go (x .sides) refl
           lawful = tt;
         }
 
-    go : (z : Sides) → x .sides ≡ z → Takes (Sound r own far x s (opens ∷ []) [] s) (openOf x z)
+    go : (z : Sides) → x .sides ≡ z → Takes (Sound r own far x s (opens ∷ []) s) (openOf x z)
     go sides.Idle e = starts before.Idle (sym (ap endsOf e))
     go (sides.Opening b) e = tt
     go (sides.Live side.Open t) e = tt
@@ -168,7 +168,7 @@ grantable-range (ration.Finite left) n e = e
 grantable-range ration.Endless n e = refl
 
 pub grant-sound : (r : Role) (own far : Ration) (x : Session) (s : List ℕ) (n : ℕ) → Formed r true x
-    → Takes (Sound r own far x s [] [] s) (grantAsk x n)
+    → Takes (Sound r own far x s [] s) (grantAsk x n)
 unfolding grantAsk fold
 grant-sound r own far x s n f standing amount sum =
     let range = grantable-range (x .inbound) n (not-false (grantable (x .inbound) n) sum) in
@@ -177,7 +177,7 @@ grant-sound r own far x s n f standing amount sum =
       seen = refl;
       formed = record { outbound = f .outbound; inbound = range; waiting = f .waiting; none = f .none; finish = f .finish; place = f .place };
       lasts = λ h _ _. h;
-      lawful = (go (x .sides) (not-false (mayGrant (x .sides)) standing) range, omega arith, tt);
+      lawful = record { now = go (x .sides) (not-false (mayGrant (x .sides)) standing) range; ours = refl; fits = omega arith };
     }
   where
     go : (z : Sides) → mayGrant z ≡ true → inRange (plus (x .inbound) n) ≡ true → permitsOurs (endsOf z) (look far x s) (increment-of n) ≡ true
@@ -193,6 +193,16 @@ grant-sound r own far x s n f standing amount sum =
 
 -- ---- abort
 
+-- partial only from a server
+partial-server : (p : Bool) (r : Role) → (p && isClient r) ≡ false → onlyIf p (isServer r) ≡ true
+partial-server true role.Client e = absurd (true≢false e)
+partial-server true role.Server e = refl
+partial-server false r e = refl
+
+client-server : (r : Role) → isClient r ≡ false → isServer r ≡ true
+client-server role.Client e = absurd (true≢false e)
+client-server role.Server e = refl
+
 -- our side ends and what waited is dropped
 ended-formed : {r : Role} {x : Session} (t : Side) (y : Session) → Formed r true x → y .sides ≡ sides.Live side.Ended t → y .outbound ≡ x .outbound
     → y .inbound ≡ x .inbound → y .waiting ≡ 0 → y .finish ≡ false → Formed r true y
@@ -207,7 +217,7 @@ ended-formed t y f z o i w n =
     }
 
 pub abort-sound : (r : Role) (own far : Ration) (x : Session) (s : List ℕ) (partial : Bool) → Formed r true x
-    → Takes (Sound r own far x s (aborts ∷ []) [] s) (abortAsk r x partial)
+    → Takes (Sound r own far x s (aborts ∷ []) s) (abortAsk r x partial)
 unfolding abortAsk fold
 abort-sound r own far x s partial f role = go (x .sides) refl
   where
@@ -215,17 +225,22 @@ abort-sound r own far x s partial f role = go (x .sides) refl
     lapsed e = absurd (true≢false e)
 
     dropping : (o t : Side) → x .sides ≡ sides.Live o t → established o ≡ true
-        → Takes (Sound r own far x s (aborts ∷ []) [] s) (aborting partial t x)
+        → Takes (Sound r own far x s (aborts ∷ []) s) (aborting partial t x)
     dropping o t e h =
         record {
           seen = seen-path (sym (ap (λ (z : Sides). ours side.Ended (endsOf z)) e)) refl refl;
           formed = ended-formed t _ f refl refl refl refl refl;
           lasts = λ _ q _. lapsed q;
-          lawful = (ap (λ (z : Sides). permitsOurs (endsOf z) (observe own far (look far x s) aborts) (abort-of partial)) e ∙ h, tt, tt);
+          lawful =
+              record {
+                now = ap (λ (z : Sides). permitsOurs (endsOf z) (observe own far (look far x s) aborts) (abort-of partial)) e ∙ h;
+                ours = partial-server partial r role;
+                fits = tt;
+              };
         }
 
     restoring : (b : Before) → x .sides ≡ sides.Opening b
-        → Sound r own far x s (aborts ∷ []) [] s (record { session = dropped (sided (restored b) (settled outcome.MayRetry x)); sent = []; late = false })
+        → Sound r own far x s (aborts ∷ []) s (record { session = dropped (sided (restored b) (settled outcome.MayRetry x)); sent = []; late = false })
     restoring before.Idle e =
         record {
           seen = seen-path (sym (ap endsOf e)) refl refl;
@@ -248,7 +263,7 @@ abort-sound r own far x s partial f role = go (x .sides) refl
           lawful = tt;
         }
 
-    go : (z : Sides) → x .sides ≡ z → Takes (Sound r own far x s (aborts ∷ []) [] s) (abortOf x partial z)
+    go : (z : Sides) → x .sides ≡ z → Takes (Sound r own far x s (aborts ∷ []) s) (abortOf x partial z)
     go sides.Idle e = tt
     go (sides.Opening b) e = restoring b e
     go (sides.Live side.Open t) e = dropping side.Open t e refl
@@ -260,11 +275,11 @@ abort-sound r own far x s partial f role = go (x .sides) refl
 -- ---- close
 
 pub close-sound : (r : Role) (own far : Ration) (x : Session) (s : List ℕ) → Formed r true x
-    → Takes (Sound r own far x s [] [] s) (closeAsk r x)
+    → Takes (Sound r own far x s [] s) (closeAsk r x)
 unfolding closeAsk fold
 close-sound r own far x s f role = go (x .sides) refl
   where
-    go : (z : Sides) → x .sides ≡ z → Takes (Sound r own far x s [] [] s) (closeOf x z)
+    go : (z : Sides) → x .sides ≡ z → Takes (Sound r own far x s [] s) (closeOf x z)
     go sides.Idle e = tt
     go (sides.Opening b) e = tt
     go (sides.Live side.Open t) e = tt
@@ -283,6 +298,11 @@ close-sound r own far x s f role = go (x .sides) refl
                 place = refl;
               };
           lasts = λ h _ _. absurd (false≢true (rw e at h));
-          lawful = (ap (λ (z : Sides). permitsOurs (endsOf z) (look far x s) close-of) e, tt, tt);
+          lawful =
+              record {
+                now = ap (λ (z : Sides). permitsOurs (endsOf z) (look far x s) close-of) e;
+                ours = client-server r role;
+                fits = tt;
+              };
         }
     go (sides.Live side.Ended t) e = tt

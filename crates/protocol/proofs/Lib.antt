@@ -5,3 +5,4 @@ pub mod Sound
 pub mod Asks
 pub mod Turns
 pub mod Receipts
+pub mod Exact

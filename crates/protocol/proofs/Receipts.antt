@@ -15,7 +15,7 @@ use Rattle.ration.specs.Ration.{inRange, allows, plus, minus}
 use Rattle.ration.proofs.Laws.{minus-in-range}
 use Rattle.wire.specs.declared.Role.{Role}
 use Rattle.wire.specs.declared.Role.the-variants as role
-use Rattle.wire.specs.Message.{isServer}
+use Rattle.wire.specs.Message.{isServer, onlyIf}
 use Rattle.protocol.specs.declared.Side.{Side}
 use Rattle.protocol.specs.declared.Side.the-variants as side
 use Rattle.protocol.specs.declared.Sides.{Sides}
@@ -35,7 +35,7 @@ use Rattle.protocol.proofs.Views.{endsOf, sendsOf, look, Formed, seen-p
 use Rattle.protocol.proofs.Sound.{Sound}
 
 -- an open Data message begins a session
-abbrev begins : SessionMessage → Bool
+abbrev pub begins : SessionMessage → Bool
 begins (data-of n b close eof ack) = b
 begins (increment-of n) = false
 begins (abort-of p) = false
@@ -46,6 +46,10 @@ same-sends : (o t t′ : Side) → sends (sides.Live o t′) ≡ sends (sides.Li
 same-sends side.Open t t′ = refl
 same-sends side.Finished t t′ = refl
 same-sends side.Ended t t′ = refl
+
+own-partial : (r : Role) → onlyIf (isServer r) (isServer r) ≡ true
+own-partial role.Client = refl
+own-partial role.Server = refl
 
 same-view : (far : Ration) (o t t′ : Side) (w : List ℕ) (r : Ration) (f : Bool) → sendsOf far (sides.Live o t′) w r f ≡ sendsOf far (sides.Live o t) w r f
 same-view far side.Open t t′ w r f = refl
@@ -73,7 +77,7 @@ increment-ready (sending false (b ∷ w) r f) n h = flat (positive (plus r n)) (
 module _ (r : Role) (own far : Ration) (x : Session) (s : List ℕ) (f : Formed r true x) where
   -- what is taken when the message m comes
   abbrev At : SessionMessage → Taken → Type 0
-  At m t = Sound r own far x s (received m (t .late) ∷ []) [] s t
+  At m t = Sound r own far x s (received m (t .late) ∷ []) s t
 
   -- our side stays, theirs moves
   module _ (o t t′ : Side) (e : x .sides ≡ sides.Live o t) where
@@ -108,7 +112,11 @@ module _ (r : Role) (own far : Ration) (x : Session) (s : List ℕ) (f : Formed 
         formed = record { outbound = ho; inbound = hi; waiting = omega arith; none = refl; finish = refl; place = refl };
         lasts = λ _ q _. absurd (true≢false (sym lapse ∙ or-first (lapses (received m false)) false q));
         lawful =
-            (ap (λ (z : Ends). permitsOurs z (observe own far (look far x s) (received m false)) (abort-of (isServer r))) st ∙ live, tt, tt);
+            record {
+              now = ap (λ (z : Ends). permitsOurs z (observe own far (look far x s) (received m false)) (abort-of (isServer r))) st ∙ live;
+              ours = own-partial r;
+              fits = tt;
+            };
       }
 
   -- Data that gets no reply: our side stays

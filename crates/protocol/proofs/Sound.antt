@@ -11,13 +11,13 @@ use Rattle.protocol.specs.declared.Session.{Session}
 use Rattle.protocol.specs.Slot.{slotSize}
 use Rattle.protocol.specs.Message.{SessionMessage, data-of, increment-of, abort-of, close-of, acknowledgment-of}
 use Rattle.protocol.specs.Receipt.{Taken}
-use Rattle.protocol.specs.Observed.{Event, wrote, isReady, lapses, observe, mayWrite}
+use Rattle.protocol.specs.Observed.{Event, wrote, isReady, lapses, observe, mayWrite, fromRole}
 use Rattle.protocol.proofs.Views.{look, Formed}
 
--- the messages written, as events; `payload` follows a Data header
-abbrev pub writes : List ℕ → List SessionMessage → List Event
-writes payload [] = []
-writes payload (m ∷ ms) = wrote m payload ∷ writes payload ms
+-- the messages written, as events
+abbrev pub writes : List SessionMessage → List Event
+writes [] = []
+writes (m ∷ ms) = wrote m ∷ writes ms
 
 abbrev pub isData : SessionMessage → Bool
 isData (data-of n begins close eof ack) = true
@@ -34,7 +34,7 @@ abbrev pub anyLapse : List Event → Bool
 anyLapse [] = false
 anyLapse (e ∷ es) = lapses e || anyLapse es
 
--- the numbers that a message carries fit their 16 bits
+-- the numbers that a message carries fit: the length a slot, an increment its 16 bits
 abbrev pub Fits : SessionMessage → Type 0
 Fits (data-of n begins close eof ack) = n ≤ slotSize
 Fits (increment-of n) = n < 65_536
@@ -42,16 +42,22 @@ Fits (abort-of partial) = Unit {0}
 Fits close-of = Unit {0}
 Fits acknowledgment-of = Unit {0}
 
--- each message that is written is one that 002 lets us send when it is written
-abbrev pub Lawful : Role → Ration → Ration → List ℕ → List Event → Session → List ℕ → List SessionMessage → Type 0
-Lawful r own far payload h x s [] = Unit {0}
-Lawful r own far payload h x s (m ∷ ms) =
-    (mayWrite r far (fold (observe own far) (look far x s) h) m ≡ true) × Fits m × Lawful r own far payload (h ++ (wrote m payload ∷ [])) x s ms
+-- a message that is written: 002 lets us send it when it is written, it is one of our role, and its numbers fit
+pub record Lawful (r : Role) (own far : Ration) (x : Session) (s : List ℕ) (h : List Event) (m : SessionMessage) : Type 0 where
+  pub now : mayWrite r far (fold (observe own far) (look far x s) h) m ≡ true
+  pub ours : fromRole r m ≡ true
+  pub fits : Fits m
 
--- what is taken for the session x with slot s, told by the event h, and what is written with the payload
-pub record Sound (r : Role) (own far : Ration) (x : Session) (s : List ℕ) (h : List Event) (payload s′ : List ℕ) (t : Taken) : Type 0 where
-  pub seen : look far (t .session) s′ ≡ fold (observe own far) (look far x s) (h ++ writes payload (t .sent))
+-- at most one message is written
+abbrev pub AllLawful : Role → Ration → Ration → Session → List ℕ → List Event → List SessionMessage → Type 0
+AllLawful r own far x s h [] = Unit {0}
+AllLawful r own far x s h (m ∷ []) = Lawful r own far x s h m
+AllLawful r own far x s h (m ∷ k ∷ ms) = ⊥
+
+-- what is taken for the session x with slot s, told by the events h and what is written; s′ is the slot afterwards
+pub record Sound (r : Role) (own far : Ration) (x : Session) (s : List ℕ) (h : List Event) (s′ : List ℕ) (t : Taken) : Type 0 where
+  pub seen : look far (t .session) s′ ≡ fold (observe own far) (look far x s) (h ++ writes (t .sent))
   pub formed : Formed r true (t .session)
   pub lasts : isReady (look far x s .sends) ≡ true → anyLapse h ≡ false → anyData (t .sent) ≡ false
       → isReady (look far (t .session) s′ .sends) ≡ true
-  pub lawful : Lawful r own far payload h x s (t .sent)
+  pub lawful : AllLawful r own far x s h (t .sent)

@@ -17,7 +17,7 @@ use Rattle.ration.specs.Ration.{inRange, allows, minus}
 use Rattle.ration.proofs.Laws.{minus-in-range}
 use Rattle.wire.specs.declared.Role.{Role}
 use Rattle.wire.specs.declared.Role.the-variants as role
-use Rattle.wire.specs.Message.{isClient, onlyIf}
+use Rattle.wire.specs.Message.{isClient, onlyIf, dataFlags}
 use Rattle.protocol.specs.declared.Side.{Side}
 use Rattle.protocol.specs.declared.Side.the-variants as side
 use Rattle.protocol.specs.declared.Before.{Before}
@@ -30,7 +30,7 @@ use Rattle.protocol.specs.Queue.{turnSlot}
 use Rattle.protocol.specs.Message.{data-of}
 use Rattle.protocol.specs.Session.{afterData}
 use Rattle.protocol.specs.Ask.{smaller, lastData, sends, sending as sendingOf, turnOf, turnAsk}
-use Rattle.protocol.specs.Observed.{sending, withData, ours, mayOpen, permitsOurs, established}
+use Rattle.protocol.specs.Observed.{sending, withData, dueData, ours, mayOpen, permitsOurs, established}
 use Rattle.protocol.proofs.Plans.{Takes}
 use Rattle.protocol.proofs.Views.{endsOf, sendsOf, look, Formed, seen-path}
 use Rattle.protocol.proofs.Sound.{Sound}
@@ -84,12 +84,20 @@ may-open role.Client before.Finished e = refl
 may-open role.Client before.Ended e = refl
 may-open role.Server b e = absurd (false≢true e)
 
+open-flags : (r : Role) (eof : Bool) → isClient r ≡ true → dataFlags r true false eof false ≡ true
+open-flags role.Client eof e = refl
+open-flags role.Server eof e = absurd (false≢true e)
+
+plain-flags : (r : Role) (eof : Bool) → dataFlags r false false eof false ≡ true
+plain-flags role.Client eof = refl
+plain-flags role.Server eof = refl
+
 only-if-true : (a b : Bool) → b ≡ true → onlyIf a b ≡ true
 only-if-true true b e = e
 only-if-true false b e = refl
 
 pub turn-sound : (r : Role) (own far : Ration) (x : Session) (s : List ℕ) → Formed r true x → inRange own ≡ true → inRange far ≡ true → x .waiting ≤ length s
-    → Takes (λ t. Sound r own far x s [] s (turnSlot (x .waiting) (x .waiting - t .session .waiting) s) t) (turnAsk own far x)
+    → Takes (λ t. Sound r own far x s [] (turnSlot (x .waiting) (x .waiting - t .session .waiting) s) t) (turnAsk own far x)
 unfolding turnAsk fold
 turn-sound r own far x s f ho hf long = go (x .sides) refl
   where
@@ -97,7 +105,7 @@ turn-sound r own far x s f ho hf long = go (x .sides) refl
     stays n h = let e : x .waiting - (x .waiting - n) ≡ n = omega arith in
         ap (λ (k : ℕ). take (x .waiting - n) (turnSlot (x .waiting) k s)) e ∙ turn-slot (x .waiting) n s long h
 
-    go : (z : Sides) → x .sides ≡ z → Takes (λ t. Sound r own far x s [] s (turnSlot (x .waiting) (x .waiting - t .session .waiting) s) t) (turnOf own far x z)
+    go : (z : Sides) → x .sides ≡ z → Takes (λ t. Sound r own far x s [] (turnSlot (x .waiting) (x .waiting - t .session .waiting) s) t) (turnOf own far x z)
     go sides.Idle e = tt
     go (sides.Opening b) e =
         let n = smaller (x .waiting) far in
@@ -120,7 +128,11 @@ turn-sound r own far x s f ho hf long = go (x .sides) refl
               };
           lasts = λ _ _ q. absurd (true≢false q);
           lawful =
-              (and-both (and-both client (ap (λ (z : Sides). mayOpen r (endsOf z)) e ∙ may-open r b client)) (smaller-allowed (x .waiting) far), omega arith, tt);
+              record {
+                now = and-both (and-both client (ap (λ (z : Sides). mayOpen r (endsOf z)) e ∙ may-open r b client)) (smaller-allowed (x .waiting) far);
+                ours = open-flags r (lastData x n) client;
+                fits = omega arith;
+              };
         }
     go (sides.Live side.Open t) e = λ due.
         let n = smaller (x .waiting) (x .outbound) in
@@ -141,12 +153,35 @@ turn-sound r own far x s f ho hf long = go (x .sides) refl
                 place = refl;
               };
           lasts = λ _ _ q. absurd (true≢false q);
-          lawful = (
-            ap (λ (z : Sides). permitsOurs (endsOf z) (record { standing = endsOf z; sends = sendsOf far z (take (x .waiting) s) (x .outbound) (x .finish); inbound = x .inbound }) (data-of n false false (lastData x n) false)) e
-                ∙ only-if-true (established t) (allows (x .outbound) n) (smaller-allowed (x .waiting) (x .outbound)),
-            omega arith,
-            tt,
-          );
+          lawful =
+              record {
+                now =
+                    ap (λ (z : Sides). permitsOurs (endsOf z) (record { standing = endsOf z; sends = sendsOf far z (take (x .waiting) s) (x .outbound) (x .finish); inbound = x .inbound }) (data-of n false false (lastData x n) false)) e
+                    ∙ only-if-true (established t) (allows (x .outbound) n) (smaller-allowed (x .waiting) (x .outbound));
+                ours = plain-flags r (lastData x n);
+                fits = omega arith;
+              };
         }
+    go (sides.Live side.Finished t) e = tt
+    go (sides.Live side.Ended t) e = tt
+
+-- a turn sends what is observed to be due
+pub turn-sends : (own far : Ration) (x : Session) (s : List ℕ) → x .waiting ≤ length s
+    → Takes (λ t. t .sent ≡ dueData (look far x s .sends) ∷ []) (turnAsk own far x)
+unfolding turnAsk
+turn-sends own far x s long = go (x .sides) refl
+  where
+    size : length (take (x .waiting) s) ≡ x .waiting
+    size = length-take-le (x .waiting) s long
+
+    sent : (u : Bool) (q : Ration) → data-of (smaller (x .waiting) q) u false (lastData x (smaller (x .waiting) q)) false ∷ [] ≡ dueData (sending u (take (x .waiting) s) q (x .finish)) ∷ []
+    sent u q = rw size
+
+    go : (z : Sides) → x .sides ≡ z → Takes (λ t. t .sent ≡ dueData (look far x s .sends) ∷ []) (turnOf own far x z)
+    go sides.Idle e = tt
+    go (sides.Opening b) e =
+        sent true far ∙ sym (ap (λ (z : Sides). dueData (sendsOf far z (take (x .waiting) s) (x .outbound) (x .finish)) ∷ []) e)
+    go (sides.Live side.Open t) e = λ due.
+        sent false (x .outbound) ∙ sym (ap (λ (z : Sides). dueData (sendsOf far z (take (x .waiting) s) (x .outbound) (x .finish)) ∷ []) e)
     go (sides.Live side.Finished t) e = tt
     go (sides.Live side.Ended t) e = tt

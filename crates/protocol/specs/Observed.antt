@@ -9,19 +9,19 @@ use Rattle.ration.specs.declared.Ration.the-variants as ration
 use Rattle.ration.specs.Ration.{allows, inRange, plus, minus}
 use Rattle.wire.specs.declared.Role.{Role}
 use Rattle.wire.specs.declared.Role.the-variants as role
-use Rattle.wire.specs.Message.{isClient, onlyIf}
+use Rattle.wire.specs.Message.{isClient, isServer, onlyIf, dataFlags}
 use Rattle.protocol.specs.declared.Side.{Side}
 use Rattle.protocol.specs.declared.Side.the-variants as side
 use Rattle.protocol.specs.Message.{SessionMessage, data-of, increment-of, abort-of, close-of, acknowledgment-of}
 use Rattle.protocol.specs.Session.{afterData}
-use Rattle.protocol.specs.Ask.{positive}
+use Rattle.protocol.specs.Ask.{positive, smaller}
 
 -- what happens to a session number: a call of ours is taken, a message is taken (late or not), a message is written
 pub data Event : Type 0 where
   opens finishes aborts : Event
   puts : List ℕ → Event
   received : SessionMessage → Bool → Event
-  wrote : SessionMessage → List ℕ → Event
+  wrote : SessionMessage → Event
 
 -- ---- whether it sends
 
@@ -61,11 +61,11 @@ sendsAfter far v (received (increment-of n) false) = withIncrement n v
 sendsAfter far v (received (abort-of partial) late) = v
 sendsAfter far v (received close-of late) = v
 sendsAfter far v (received acknowledgment-of late) = v
-sendsAfter far v (wrote (data-of n begins close eof ack) payload) = withData n eof v
-sendsAfter far v (wrote (increment-of n) payload) = v
-sendsAfter far v (wrote (abort-of partial) payload) = silent
-sendsAfter far v (wrote close-of payload) = v
-sendsAfter far v (wrote acknowledgment-of payload) = v
+sendsAfter far v (wrote (data-of n begins close eof ack)) = withData n eof v
+sendsAfter far v (wrote (increment-of n)) = v
+sendsAfter far v (wrote (abort-of partial)) = silent
+sendsAfter far v (wrote close-of) = v
+sendsAfter far v (wrote acknowledgment-of) = v
 
 -- ---- ready
 
@@ -90,7 +90,7 @@ lapses (received (increment-of n) late) = false
 lapses (received (abort-of partial) late) = true
 lapses (received close-of late) = true
 lapses (received acknowledgment-of late) = false
-lapses (wrote m payload) = false
+lapses (wrote m) = false
 
 -- ---- where each end stands, in the words of 002
 
@@ -120,12 +120,12 @@ endsAfter v (received (increment-of n) late) = v
 endsAfter v (received (abort-of partial) late) = theirs side.Ended v
 endsAfter v (received close-of late) = theirs side.Ended v
 endsAfter v (received acknowledgment-of late) = v
-endsAfter v (wrote (data-of n true close eof ack) payload) = ends (afterData close eof) side.Open
-endsAfter v (wrote (data-of n false close eof ack) payload) = ours (afterData close eof) v
-endsAfter v (wrote (increment-of n) payload) = v
-endsAfter v (wrote (abort-of partial) payload) = ours side.Ended v
-endsAfter v (wrote close-of payload) = ours side.Ended v
-endsAfter v (wrote acknowledgment-of payload) = v
+endsAfter v (wrote (data-of n true close eof ack)) = ends (afterData close eof) side.Open
+endsAfter v (wrote (data-of n false close eof ack)) = ours (afterData close eof) v
+endsAfter v (wrote (increment-of n)) = v
+endsAfter v (wrote (abort-of partial)) = ours side.Ended v
+endsAfter v (wrote close-of) = ours side.Ended v
+endsAfter v (wrote acknowledgment-of) = v
 
 -- ---- what the far end may still send: our start, plus what was granted, less the Data taken and not late
 
@@ -141,12 +141,12 @@ inboundAfter own v (received (increment-of n) late) = v
 inboundAfter own v (received (abort-of partial) late) = v
 inboundAfter own v (received close-of late) = v
 inboundAfter own v (received acknowledgment-of late) = v
-inboundAfter own v (wrote (data-of n true close eof ack) payload) = own
-inboundAfter own v (wrote (data-of n false close eof ack) payload) = v
-inboundAfter own v (wrote (increment-of n) payload) = plus v n
-inboundAfter own v (wrote (abort-of partial) payload) = v
-inboundAfter own v (wrote close-of payload) = v
-inboundAfter own v (wrote acknowledgment-of payload) = v
+inboundAfter own v (wrote (data-of n true close eof ack)) = own
+inboundAfter own v (wrote (data-of n false close eof ack)) = v
+inboundAfter own v (wrote (increment-of n)) = plus v n
+inboundAfter own v (wrote (abort-of partial)) = v
+inboundAfter own v (wrote close-of) = v
+inboundAfter own v (wrote acknowledgment-of) = v
 
 -- ---- all that is told of a number
 
@@ -163,6 +163,14 @@ observe own far v e =
       sends = sendsAfter far (v .sends) e;
       inbound = inboundAfter own (v .inbound) e;
     }
+
+-- ---- what a turn sends
+
+-- the smaller of waiting and ration as length, open if unsent, eof exactly if finish was taken and nothing remains
+abbrev pub dueData : Sending → SessionMessage
+dueData silent = data-of 0 false false false false
+dueData (sending unsent waiting r finish) =
+    data-of (smaller (length waiting) r) unsent false (finish && eqb (length waiting - smaller (length waiting) r) 0) false
 
 -- ---- what 002 lets an end send now
 
@@ -222,11 +230,19 @@ mayWrite r far v (abort-of partial) = permitsOurs (v .standing) v (abort-of part
 mayWrite r far v close-of = permitsOurs (v .standing) v close-of
 mayWrite r far v acknowledgment-of = permitsOurs (v .standing) v acknowledgment-of
 
--- the far end may send the message now; an open Data to a server spends our start
+-- the far end may send the message now; an open Data of a client's spends our start
 abbrev pub mayArrive : Role → Ration → Seen → SessionMessage → Bool
-mayArrive r own v (data-of n true close eof ack) = mayOpen r (v .standing) && allows own n
+mayArrive r own v (data-of n true close eof ack) = isServer r && mayOpen r (v .standing) && allows own n
 mayArrive r own v (data-of n false close eof ack) = permitsTheirs (v .standing) v (data-of n false close eof ack)
 mayArrive r own v (increment-of n) = permitsTheirs (v .standing) v (increment-of n)
 mayArrive r own v (abort-of partial) = permitsTheirs (v .standing) v (abort-of partial)
 mayArrive r own v close-of = permitsTheirs (v .standing) v close-of
 mayArrive r own v acknowledgment-of = permitsTheirs (v .standing) v acknowledgment-of
+
+-- the type and the flags are ones that an end of the role may send at all
+abbrev pub fromRole : Role → SessionMessage → Bool
+fromRole r (data-of n begins close eof ack) = dataFlags r begins close eof ack
+fromRole r (increment-of n) = true
+fromRole r (abort-of partial) = onlyIf partial (isServer r)
+fromRole r close-of = isServer r
+fromRole r acknowledgment-of = isClient r
