@@ -36,6 +36,7 @@ use Rattle.protocol.specs.Observed.{opens, finishes, aborts, puts, Event
 use Rattle.laws.proofs.Tests.{and-both, or-first, or-second, not-false}
 use Rattle.protocol.proofs.Plans.{Takes}
 use Rattle.protocol.proofs.Views.{endsOf, sendsOf, look, Formed, seen-path}
+use Rattle.protocol.proofs.Slots.{put-length}
 use Rattle.protocol.proofs.Sound.{Sound}
 
 -- ---- finish
@@ -54,7 +55,7 @@ finish-sends far (sides.Live side.Finished t) w r f = refl
 finish-sends far (sides.Live side.Ended t) w r f = refl
 
 pub finish-sound : (r : Role) (own far : Ration) (x : Session) (s : List ℕ) → Formed r true x
-    → Takes (Sound r own far x s (finishes ∷ []) s) (finishAsk x)
+    → Takes (Sound r own far x s (finishes ∷ []) [] s) (finishAsk x)
 unfolding finishAsk fold
 finish-sound r own far x s f side =
     let e = finish-sends far (x .sides) (take (x .waiting) s) (x .outbound) (x .finish) in
@@ -70,6 +71,7 @@ finish-sound r own far x s f side =
             place = f .place;
           };
       lasts = λ h _ _. ap isReady e ∙ finish-ready (sendsOf far (x .sides) (take (x .waiting) s) (x .outbound) (x .finish)) h;
+      room = λ h. h;
       lawful = tt;
     }
 
@@ -79,6 +81,9 @@ put-slot : (w : ℕ) (bytes s : List ℕ) → w ≤ length s → take (w + lengt
 put-slot w bytes s h =
     take-at (take w s ++ bytes) _ (w + length bytes)
     (length-append (take w s) bytes ∙ ap (λ (n : ℕ). n + length bytes) (length-take-le w s h))
+
+put-room : (w : ℕ) (bytes s : List ℕ) → w ≤ length s → w + length bytes ≤ slotSize → w + length bytes ≤ length (putSlot w bytes s)
+put-room w bytes s h k = let e = put-length w bytes s k h in omega arith
 
 put-ready : (far : Ration) (z : Sides) (w : List ℕ) (r : Ration) (f : Bool) (bytes : List ℕ) → f ≡ false → isReady (sendsOf far z w r f) ≡ true
     → isReady (withPut bytes (sendsOf far z w r f)) ≡ true
@@ -97,7 +102,7 @@ put-sends far (sides.Live side.Finished t) w w′ bytes r f e = refl
 put-sends far (sides.Live side.Ended t) w w′ bytes r f e = refl
 
 pub put-sound : (r : Role) (own far : Ration) (x : Session) (s bytes : List ℕ) → Formed r true x → x .waiting ≤ length s
-    → Takes (Sound r own far x s (puts bytes ∷ []) (putSlot (x .waiting) bytes s)) (putAsk x (length bytes))
+    → Takes (Sound r own far x s (puts bytes ∷ []) [] (putSlot (x .waiting) bytes s)) (putAsk x (length bytes))
 unfolding putAsk fold
 put-sound r own far x s bytes f long side room =
     let w = take (x .waiting) s in
@@ -119,6 +124,7 @@ put-sound r own far x s bytes f long side room =
       lasts =
           λ h _ _. ap isReady e
           ∙ put-ready far (x .sides) w (x .outbound) (x .finish) bytes (or-second (not (sends (x .sides))) (x .finish) side) h;
+      room = λ h. put-room (x .waiting) bytes s h (omega arith);
       lawful = tt;
     }
 
@@ -129,11 +135,11 @@ server-client role.Client e = refl
 server-client role.Server e = absurd (true≢false e)
 
 pub open-sound : (r : Role) (own far : Ration) (x : Session) (s : List ℕ) → Formed r true x
-    → Takes (Sound r own far x s (opens ∷ []) s) (openAsk r x)
+    → Takes (Sound r own far x s (opens ∷ []) [] s) (openAsk r x)
 unfolding openAsk fold
 open-sound r own far x s f client = go (x .sides) refl
   where
-    starts : (b : Before) → endsOf (sides.Opening b) ≡ endsOf (x .sides) → Sound r own far x s (opens ∷ []) s (record { session = opened b x; sent = []; late = false })
+    starts : (b : Before) → endsOf (sides.Opening b) ≡ endsOf (x .sides) → Sound r own far x s (opens ∷ []) [] s (record { session = opened b x; sent = []; late = false })
     starts b e =
         record {
           seen = seen-path e refl refl;
@@ -147,10 +153,11 @@ open-sound r own far x s f client = go (x .sides) refl
                 place = and-both (server-client r client) refl;
               };
           lasts = λ _ _ _. refl;
+          room = λ _. omega arith;
           lawful = tt;
         }
 
-    go : (z : Sides) → x .sides ≡ z → Takes (Sound r own far x s (opens ∷ []) s) (openOf x z)
+    go : (z : Sides) → x .sides ≡ z → Takes (Sound r own far x s (opens ∷ []) [] s) (openOf x z)
     go sides.Idle e = starts before.Idle (sym (ap endsOf e))
     go (sides.Opening b) e = tt
     go (sides.Live side.Open t) e = tt
@@ -168,7 +175,7 @@ grantable-range (ration.Finite left) n e = e
 grantable-range ration.Endless n e = refl
 
 pub grant-sound : (r : Role) (own far : Ration) (x : Session) (s : List ℕ) (n : ℕ) → Formed r true x
-    → Takes (Sound r own far x s [] s) (grantAsk x n)
+    → Takes (Sound r own far x s [] [] s) (grantAsk x n)
 unfolding grantAsk fold
 grant-sound r own far x s n f standing amount sum =
     let range = grantable-range (x .inbound) n (not-false (grantable (x .inbound) n) sum) in
@@ -177,7 +184,8 @@ grant-sound r own far x s n f standing amount sum =
       seen = refl;
       formed = record { outbound = f .outbound; inbound = range; waiting = f .waiting; none = f .none; finish = f .finish; place = f .place };
       lasts = λ h _ _. h;
-      lawful = record { now = go (x .sides) (not-false (mayGrant (x .sides)) standing) range; ours = refl; fits = omega arith };
+      room = λ h. h;
+      lawful = record { now = go (x .sides) (not-false (mayGrant (x .sides)) standing) range; ours = refl; fits = omega arith; body = omega arith };
     }
   where
     go : (z : Sides) → mayGrant z ≡ true → inRange (plus (x .inbound) n) ≡ true → permitsOurs (endsOf z) (look far x s) (increment-of n) ≡ true
@@ -217,7 +225,7 @@ ended-formed t y f z o i w n =
     }
 
 pub abort-sound : (r : Role) (own far : Ration) (x : Session) (s : List ℕ) (partial : Bool) → Formed r true x
-    → Takes (Sound r own far x s (aborts ∷ []) s) (abortAsk r x partial)
+    → Takes (Sound r own far x s (aborts ∷ []) [] s) (abortAsk r x partial)
 unfolding abortAsk fold
 abort-sound r own far x s partial f role = go (x .sides) refl
   where
@@ -225,27 +233,30 @@ abort-sound r own far x s partial f role = go (x .sides) refl
     lapsed e = absurd (true≢false e)
 
     dropping : (o t : Side) → x .sides ≡ sides.Live o t → established o ≡ true
-        → Takes (Sound r own far x s (aborts ∷ []) s) (aborting partial t x)
+        → Takes (Sound r own far x s (aborts ∷ []) [] s) (aborting partial t x)
     dropping o t e h =
         record {
           seen = seen-path (sym (ap (λ (z : Sides). ours side.Ended (endsOf z)) e)) refl refl;
           formed = ended-formed t _ f refl refl refl refl refl;
           lasts = λ _ q _. lapsed q;
+          room = λ _. omega arith;
           lawful =
               record {
                 now = ap (λ (z : Sides). permitsOurs (endsOf z) (observe own far (look far x s) aborts) (abort-of partial)) e ∙ h;
                 ours = partial-server partial r role;
                 fits = tt;
+                body = omega arith;
               };
         }
 
     restoring : (b : Before) → x .sides ≡ sides.Opening b
-        → Sound r own far x s (aborts ∷ []) s (record { session = dropped (sided (restored b) (settled outcome.MayRetry x)); sent = []; late = false })
+        → Sound r own far x s (aborts ∷ []) [] s (record { session = dropped (sided (restored b) (settled outcome.MayRetry x)); sent = []; late = false })
     restoring before.Idle e =
         record {
           seen = seen-path (sym (ap endsOf e)) refl refl;
           formed = record { outbound = f .outbound; inbound = f .inbound; waiting = omega arith; none = refl; finish = refl; place = refl };
           lasts = λ _ q _. lapsed q;
+          room = λ _. omega arith;
           lawful = tt;
         }
     restoring before.Finished e =
@@ -253,6 +264,7 @@ abort-sound r own far x s partial f role = go (x .sides) refl
           seen = seen-path (sym (ap endsOf e)) refl refl;
           formed = record { outbound = f .outbound; inbound = f .inbound; waiting = omega arith; none = refl; finish = refl; place = refl };
           lasts = λ _ q _. lapsed q;
+          room = λ _. omega arith;
           lawful = tt;
         }
     restoring before.Ended e =
@@ -260,10 +272,11 @@ abort-sound r own far x s partial f role = go (x .sides) refl
           seen = seen-path (sym (ap endsOf e)) refl refl;
           formed = record { outbound = f .outbound; inbound = f .inbound; waiting = omega arith; none = refl; finish = refl; place = refl };
           lasts = λ _ q _. lapsed q;
+          room = λ _. omega arith;
           lawful = tt;
         }
 
-    go : (z : Sides) → x .sides ≡ z → Takes (Sound r own far x s (aborts ∷ []) s) (abortOf x partial z)
+    go : (z : Sides) → x .sides ≡ z → Takes (Sound r own far x s (aborts ∷ []) [] s) (abortOf x partial z)
     go sides.Idle e = tt
     go (sides.Opening b) e = restoring b e
     go (sides.Live side.Open t) e = dropping side.Open t e refl
@@ -275,11 +288,11 @@ abort-sound r own far x s partial f role = go (x .sides) refl
 -- ---- close
 
 pub close-sound : (r : Role) (own far : Ration) (x : Session) (s : List ℕ) → Formed r true x
-    → Takes (Sound r own far x s [] s) (closeAsk r x)
+    → Takes (Sound r own far x s [] [] s) (closeAsk r x)
 unfolding closeAsk fold
 close-sound r own far x s f role = go (x .sides) refl
   where
-    go : (z : Sides) → x .sides ≡ z → Takes (Sound r own far x s [] s) (closeOf x z)
+    go : (z : Sides) → x .sides ≡ z → Takes (Sound r own far x s [] [] s) (closeOf x z)
     go sides.Idle e = tt
     go (sides.Opening b) e = tt
     go (sides.Live side.Open t) e = tt
@@ -298,11 +311,13 @@ close-sound r own far x s f role = go (x .sides) refl
                 place = refl;
               };
           lasts = λ h _ _. absurd (false≢true (rw e at h));
+          room = λ h. h;
           lawful =
               record {
                 now = ap (λ (z : Sides). permitsOurs (endsOf z) (look far x s) close-of) e;
                 ours = client-server r role;
                 fits = tt;
+                body = omega arith;
               };
         }
     go (sides.Live side.Ended t) e = tt

@@ -2,6 +2,7 @@
 pub mod Plans
 pub mod Views
 pub mod Sound
+pub mod Slots
 pub mod Asks
 pub mod Turns
 pub mod Receipts

@@ -29,3 +29,8 @@ abbrev pub Exactly : {A : Type 0} → Bool → Plan A → Type 0
 Exactly t (stop n) = t ≡ false
 Exactly t (check b n p) = (b ≡ true → t ≡ false) × (b ≡ false → Exactly t p)
 Exactly t (take a) = t ≡ true
+
+pub takes-map : {A : Type 0} {P Q : A → Type 0} → ((a : A) → P a → Q a) → (p : Plan A) → Takes P p → Takes Q p
+takes-map f (stop n) h = tt
+takes-map f (check b n p) h = λ e. takes-map f p (h e)
+takes-map f (take a) h = f a h

@@ -42,22 +42,33 @@ Fits (abort-of partial) = Unit {0}
 Fits close-of = Unit {0}
 Fits acknowledgment-of = Unit {0}
 
--- a message that is written: 002 lets us send it when it is written, it is one of our role, and its numbers fit
-pub record Lawful (r : Role) (own far : Ration) (x : Session) (s : List ℕ) (h : List Event) (m : SessionMessage) : Type 0 where
+-- how many bytes follow the header of a message
+abbrev pub carried : SessionMessage → ℕ
+carried (data-of n begins close eof ack) = n
+carried (increment-of n) = 0
+carried (abort-of partial) = 0
+carried close-of = 0
+carried acknowledgment-of = 0
+
+-- a message that is written: 002 lets us send it when it is written, it is one of our role, its numbers fit,
+-- and `payload` has the bytes that follow
+pub record Lawful (r : Role) (own far : Ration) (x : Session) (s : List ℕ) (h : List Event) (payload : List ℕ) (m : SessionMessage) : Type 0 where
   pub now : mayWrite r far (fold (observe own far) (look far x s) h) m ≡ true
   pub ours : fromRole r m ≡ true
   pub fits : Fits m
+  pub body : carried m ≤ length payload
 
 -- at most one message is written
-abbrev pub AllLawful : Role → Ration → Ration → Session → List ℕ → List Event → List SessionMessage → Type 0
-AllLawful r own far x s h [] = Unit {0}
-AllLawful r own far x s h (m ∷ []) = Lawful r own far x s h m
-AllLawful r own far x s h (m ∷ k ∷ ms) = ⊥
+abbrev pub AllLawful : Role → Ration → Ration → Session → List ℕ → List Event → List ℕ → List SessionMessage → Type 0
+AllLawful r own far x s h payload [] = Unit {0}
+AllLawful r own far x s h payload (m ∷ []) = Lawful r own far x s h payload m
+AllLawful r own far x s h payload (m ∷ k ∷ ms) = ⊥
 
 -- what is taken for the session x with slot s, told by the events h and what is written; s′ is the slot afterwards
-pub record Sound (r : Role) (own far : Ration) (x : Session) (s : List ℕ) (h : List Event) (s′ : List ℕ) (t : Taken) : Type 0 where
+pub record Sound (r : Role) (own far : Ration) (x : Session) (s : List ℕ) (h : List Event) (payload s′ : List ℕ) (t : Taken) : Type 0 where
   pub seen : look far (t .session) s′ ≡ fold (observe own far) (look far x s) (h ++ writes (t .sent))
   pub formed : Formed r true (t .session)
   pub lasts : isReady (look far x s .sends) ≡ true → anyLapse h ≡ false → anyData (t .sent) ≡ false
       → isReady (look far (t .session) s′ .sends) ≡ true
-  pub lawful : AllLawful r own far x s h (t .sent)
+  pub room : x .waiting ≤ length s → t .session .waiting ≤ length s′
+  pub lawful : AllLawful r own far x s h payload (t .sent)

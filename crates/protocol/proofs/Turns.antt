@@ -33,6 +33,7 @@ use Rattle.protocol.specs.Ask.{smaller, lastData, sends, sending as send
 use Rattle.protocol.specs.Observed.{sending, withData, dueData, ours, mayOpen, permitsOurs, established}
 use Rattle.protocol.proofs.Plans.{Takes}
 use Rattle.protocol.proofs.Views.{endsOf, sendsOf, look, Formed, seen-path}
+use Rattle.protocol.proofs.Slots.{turn-length}
 use Rattle.protocol.proofs.Sound.{Sound}
 
 -- ---- the bytes that go and those that stay
@@ -97,7 +98,7 @@ only-if-true true b e = e
 only-if-true false b e = refl
 
 pub turn-sound : (r : Role) (own far : Ration) (x : Session) (s : List ℕ) → Formed r true x → inRange own ≡ true → inRange far ≡ true → x .waiting ≤ length s
-    → Takes (λ t. Sound r own far x s [] (turnSlot (x .waiting) (x .waiting - t .session .waiting) s) t) (turnAsk own far x)
+    → Takes (λ t. Sound r own far x s [] s (turnSlot (x .waiting) (x .waiting - t .session .waiting) s) t) (turnAsk own far x)
 unfolding turnAsk fold
 turn-sound r own far x s f ho hf long = go (x .sides) refl
   where
@@ -105,7 +106,7 @@ turn-sound r own far x s f ho hf long = go (x .sides) refl
     stays n h = let e : x .waiting - (x .waiting - n) ≡ n = omega arith in
         ap (λ (k : ℕ). take (x .waiting - n) (turnSlot (x .waiting) k s)) e ∙ turn-slot (x .waiting) n s long h
 
-    go : (z : Sides) → x .sides ≡ z → Takes (λ t. Sound r own far x s [] (turnSlot (x .waiting) (x .waiting - t .session .waiting) s) t) (turnOf own far x z)
+    go : (z : Sides) → x .sides ≡ z → Takes (λ t. Sound r own far x s [] s (turnSlot (x .waiting) (x .waiting - t .session .waiting) s) t) (turnOf own far x z)
     go sides.Idle e = tt
     go (sides.Opening b) e =
         let n = smaller (x .waiting) far in
@@ -127,11 +128,13 @@ turn-sound r own far x s f ho hf long = go (x .sides) refl
                 place = refl;
               };
           lasts = λ _ _ q. absurd (true≢false q);
+          room = λ _. let e = turn-length (x .waiting) (x .waiting - (x .waiting - n)) s small in omega arith;
           lawful =
               record {
                 now = and-both (and-both client (ap (λ (z : Sides). mayOpen r (endsOf z)) e ∙ may-open r b client)) (smaller-allowed (x .waiting) far);
                 ours = open-flags r (lastData x n) client;
                 fits = omega arith;
+                body = omega arith;
               };
         }
     go (sides.Live side.Open t) e = λ due.
@@ -153,6 +156,7 @@ turn-sound r own far x s f ho hf long = go (x .sides) refl
                 place = refl;
               };
           lasts = λ _ _ q. absurd (true≢false q);
+          room = λ _. let e = turn-length (x .waiting) (x .waiting - (x .waiting - n)) s small in omega arith;
           lawful =
               record {
                 now =
@@ -160,6 +164,7 @@ turn-sound r own far x s f ho hf long = go (x .sides) refl
                     ∙ only-if-true (established t) (allows (x .outbound) n) (smaller-allowed (x .waiting) (x .outbound));
                 ours = plain-flags r (lastData x n);
                 fits = omega arith;
+                body = omega arith;
               };
         }
     go (sides.Live side.Finished t) e = tt

@@ -201,12 +201,12 @@ decoded-has kind.Acknowledgment a b c d e = record { second = bare-session b c d
 decoded-has kind.Data a b c d e = record { second = session-same b e; number = refl; shift = omega arith; session = session-small b; kinds = refl }
 
 -- a message that the checks let pass
-record Passed (from : Role) (k : Kind) (l m : Message) : Type 0 where
-  is : l ≡ m
-  sends : maySend from k ≡ true
-  allows : flagsAllowed from l ≡ true
+pub record Passed (from : Role) (k : Kind) (l m : Message) : Type 0 where
+  pub is : l ≡ m
+  pub sends : maySend from k ≡ true
+  pub allows : flagsAllowed from l ≡ true
 
-passed : (from : Role) (k : Kind) (l m : Message) → allowed from k l ≡ ok m → Passed from k l m
+pub passed : (from : Role) (k : Kind) (l m : Message) → allowed from k l ≡ ok m → Passed from k l m
 unfolding allowed pick
 passed from k l m q = go (maySend from k) (flagsAllowed from l) refl refl q
   where

@@ -1,0 +1,139 @@
+-- What every state of a run keeps, and what a call that is taken does to it; the statement that each call's step proves.
+use mathlib.Core.Path.{_≡_, refl, sym, ap, _∙_, subst}
+use mathlib.Core.Logic.{_⊎_, inl, inr}
+use mathlib.Core.Bool.{Bool, true, false, not, _&&_}
+use mathlib.Core.List.{List, [], _∷_, _++_, map}
+use Prim.Native.Nat.{ℕ, _≤_, _<_}
+use native.Mathlib.Omega.{arith}
+use lib.ListN.{length}
+use Rattle.laws.specs.Result.{Result, ok, refused, violation}
+use Rattle.laws.specs.Runs.{fold}
+use Rattle.ration.specs.declared.Ration.{Ration}
+use Rattle.ration.specs.Ration.{fromHeader, inRange}
+use Rattle.ration.proofs.Laws.{start-in-range}
+use Rattle.wire.specs.declared.Role.{Role}
+use Rattle.wire.specs.declared.Message.{Message}
+use Rattle.wire.specs.Message.{readMessage}
+use Rattle.protocol.specs.declared.Session.{Session}
+use Rattle.protocol.specs.declared.Stage.{Stage}
+use Rattle.protocol.specs.declared.Setup.{Setup}
+use Rattle.protocol.specs.declared.Connection.{Connection}
+use Rattle.protocol.specs.Slot.{slotSize, queueSize}
+use Rattle.protocol.specs.Queue.{slot}
+use Rattle.protocol.specs.Message.{SessionMessage, numbered}
+use Rattle.protocol.specs.Receipt.{Taken}
+use Rattle.protocol.specs.Connection.{at, roleOf, exchanged, farNumber, ownStart, farStart}
+use Rattle.protocol.specs.Judge.{Report, Out, sent, Effect, accept, with-session, commit}
+use Rattle.protocol.specs.Result.{bytesOfAll}
+use Rattle.protocol.specs.Observed.{Event, wrote, observe, Seen}
+use Rattle.protocol.proofs.Views.{look, Formed}
+use Rattle.protocol.proofs.Sound.{Sound, AllLawful, Lawful, writes}
+use Rattle.history.specs.Log.{Call, State, Entry, queueAfter, payloadOf, outBy}
+use Rattle.history.specs.Account.{Line, lineAfter, events, reported, writtenMessage}
+use Rattle.history.proofs.Written.{numbered-read, written-own, written-other, nothing-read}
+
+abbrev pub lineOf : Connection → Line
+lineOf c = record { over = c .over; stage = c .stage; ping = c .ping }
+
+abbrev pub ownOf : Setup → Ration
+ownOf setup = fromHeader (setup .header)
+
+abbrev pub farBy : Stage → Ration
+farBy s = fromHeader (farNumber s)
+
+-- what the state holds of a number
+abbrev pub holds : State → ℕ → Seen
+holds s n = look (farStart (s .connection)) (at (s .connection) n) (slot n (s .queue))
+
+-- what the connection was made from
+abbrev pub setupOf : Connection → Setup
+setupOf c = record { role = roleOf (c .stage); header = c .own }
+
+-- ---- what every state of a run keeps
+
+pub record Ok (setup : Setup) (s : State) : Type 0 where
+  pub size : length (s .connection .sessions) ≡ 128
+  pub last : s .connection .last < 128
+  pub role : roleOf (s .connection .stage) ≡ setup .role
+  pub own : s .connection .own ≡ setup .header
+  pub header : setup .header < 65_536
+  pub far : farNumber (s .connection .stage) < 65_536
+  pub formed : (n : ℕ) → n < 128 → Formed (setup .role) (exchanged (s .connection .stage)) (at (s .connection) n)
+  pub fits : (n : ℕ) → n < 128 → at (s .connection) n .waiting ≤ length (slot n (s .queue))
+
+-- ---- a call that is taken
+
+pub record Good (setup : Setup) (s : State) (k : Call) (e : Effect) : Type 0 where
+  pub inside : e .number < 128
+  pub last : e .last < 128
+  pub role : roleOf (e .stage) ≡ setup .role
+  pub far : farNumber (e .stage) < 65_536
+  -- the stage changes only before the headers are exchanged, when no number is used
+  pub stages : (e .stage ≡ s .connection .stage) ⊎ (exchanged (s .connection .stage) ≡ false)
+  pub formed : Formed (setup .role) (exchanged (e .stage)) (e .session)
+  pub fits : e .session .waiting ≤ length (slot (e .number) (queueAfter (s .connection) (s .queue) k (accept e)))
+  pub seen : look (farBy (e .stage)) (e .session) (slot (e .number) (queueAfter (s .connection) (s .queue) k (accept e)))
+      ≡ fold (observe (ownOf setup) (farStart (s .connection))) (holds s (e .number)) (events (setup .role) (e .number) (outBy s k (accept e)))
+  pub others : (m : ℕ) → (e .number ≡ m → ⊥) → events (setup .role) m (outBy s k (accept e)) ≡ []
+  pub frame : (m : ℕ) → m < 128 → (e .number ≡ m → ⊥)
+      → slot m (queueAfter (s .connection) (s .queue) k (accept e)) ≡ slot m (s .queue)
+  pub line : lineAfter (lineOf (s .connection)) (outBy s k (accept e)) ≡ lineOf (commit (s .connection) e)
+
+-- what a call that concerns one session has to show
+pub record ForSession (setup : Setup) (s : State) (k : Call) (n last : ℕ) (rep : Report) (h : List Event) (t : Taken) : Type 0 where
+  pub inside : n < 128
+  pub last-inside : last < 128
+  pub up : exchanged (s .connection .stage) ≡ true
+  pub sound : Sound (setup .role) (ownOf setup) (farStart (s .connection)) (at (s .connection) n) (slot n (s .queue)) h
+      (payloadOf (s .queue) k (accept (with-session (s .connection) n last rep t)))
+      (slot n (queueAfter (s .connection) (s .queue) k (accept (with-session (s .connection) n last rep t)))) t
+  pub told : reported n k rep ≡ h
+  pub not-told : (m : ℕ) → (n ≡ m → ⊥) → reported m k rep ≡ []
+  pub frame : (m : ℕ) → m < 128 → (n ≡ m → ⊥)
+      → slot m (queueAfter (s .connection) (s .queue) k (accept (with-session (s .connection) n last rep t))) ≡ slot m (s .queue)
+  pub line : lineAfter (lineOf (s .connection)) (outBy s k (accept (with-session (s .connection) n last rep t))) ≡ lineOf (s .connection)
+
+module _ (r : Role) (own far : Ration) (x : Session) (sl : List ℕ) (h : List Event) (n : ℕ) (hn : n < 128) (payload : List ℕ) where
+  -- what is written for a session is read as those events, and as none of another number
+  wrote-own : (ms : List SessionMessage) → AllLawful r own far x sl h payload ms
+      → writtenMessage n (readMessage r (bytesOfAll payload (map (λ m. sent (numbered n m)) ms))) ≡ writes ms
+  wrote-own [] l = nothing-read r payload n
+  wrote-own (m ∷ []) l = ap (writtenMessage n) (numbered-read r n m payload hn (l .ours) (l .fits) (l .body)) ∙ written-own n m
+  wrote-own (m ∷ j ∷ ms) l = absurd l
+
+  wrote-other : (i : ℕ) → (n ≡ i → ⊥) → (ms : List SessionMessage) → AllLawful r own far x sl h payload ms
+      → writtenMessage i (readMessage r (bytesOfAll payload (map (λ m. sent (numbered n m)) ms))) ≡ []
+  wrote-other i d [] l = nothing-read r payload i
+  wrote-other i d (m ∷ []) l = ap (writtenMessage i) (numbered-read r n m payload hn (l .ours) (l .fits) (l .body)) ∙ written-other i n m d
+  wrote-other i d (m ∷ j ∷ ms) l = absurd l
+
+pub session-good : (setup : Setup) (s : State) (k : Call) (n last : ℕ) (rep : Report) (h : List Event) (t : Taken) → Ok setup s
+    → ForSession setup s k n last rep h t → Good setup s k (with-session (s .connection) n last rep t)
+session-good setup s k n last rep h t o g =
+    let e = with-session (s .connection) n last rep t in
+    let x = at (s .connection) n in
+    let sl = slot n (s .queue) in
+    let far = farStart (s .connection) in
+    let payload = payloadOf (s .queue) k (accept e) in
+    let own-events =
+    wrote-own (setup .role) (ownOf setup) far x sl h n (g .inside) payload (t .sent) (g .sound .lawful) in
+    record {
+      inside = g .inside;
+      last = g .last-inside;
+      role = o .role;
+      far = o .far;
+      stages = inl refl;
+      formed = subst (λ (b : Bool). Formed (setup .role) b (t .session)) (sym (g .up)) (g .sound .formed);
+      fits = g .sound .room (o .fits n (g .inside));
+      seen =
+          g .sound .seen
+          ∙ ap (λ (es : List Event). fold (observe (ownOf setup) far) (look far x sl) es) (sym (append-path (g .told) own-events));
+      others =
+          λ m d. append-path (g .not-told m d)
+          (wrote-other (setup .role) (ownOf setup) far x sl h n (g .inside) payload m d (t .sent) (g .sound .lawful));
+      frame = g .frame;
+      line = g .line;
+    }
+  where
+    append-path : {a b c d : List Event} → a ≡ b → c ≡ d → a ++ c ≡ b ++ d
+    append-path p q = rw (p, q)

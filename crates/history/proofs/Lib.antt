@@ -1,0 +1,8 @@
+-- The claims over every log, and what they stand on.
+pub mod Written
+pub mod Good
+pub mod Steps
+pub mod Moves
+pub mod Lines
+pub mod Receives
+pub mod Simulation

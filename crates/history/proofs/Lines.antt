@@ -1,0 +1,166 @@
+-- The calls that concern the connection as a whole keep what is observed: no session number sees anything happen.
+use mathlib.Core.Path.{_≡_, refl, sym, ap, _∙_, subst}
+use mathlib.Core.Logic.{_⊎_, inl, inr}
+use mathlib.Core.Bool.{Bool, true, false, not, _&&_, false≢true, true≢false, and-false}
+use mathlib.Core.List.{List, [], _∷_, _++_}
+use Prim.Native.Nat.{ℕ, _≤_, _<_}
+use native.Mathlib.Omega.{arith}
+use lib.ListN.{length, take}
+use Rattle.laws.specs.Pick.{pick}
+use Rattle.laws.specs.Result.{Result, ok, refused, violation}
+use Rattle.laws.specs.Runs.{fold}
+use Rattle.laws.proofs.Tests.{not-false, true-false}
+use Rattle.ration.specs.declared.Ration.{Ration}
+use Rattle.wire.specs.declared.Role.{Role}
+use Rattle.wire.specs.declared.Role.the-variants as role
+use Rattle.wire.specs.declared.Message.{Message}
+use Rattle.wire.specs.declared.Message.the-variants as msg
+use Rattle.wire.specs.FirstByte.{kindOf}
+use Rattle.wire.specs.Message.{isClient, isServer, readMessage, parseHeader, typed, allowed, withBody, maySend}
+use Rattle.protocol.specs.declared.Sides.{Sides}
+use Rattle.protocol.specs.declared.Sides.the-variants as sides
+use Rattle.protocol.specs.declared.Session.{Session}
+use Rattle.protocol.specs.declared.Stage.{Stage}
+use Rattle.protocol.specs.declared.Stage.the-variants as stage
+use Rattle.protocol.specs.declared.Ping.{Ping}
+use Rattle.protocol.specs.declared.Ping.the-variants as ping
+use Rattle.protocol.specs.Queue.{slot}
+use Rattle.protocol.specs.Plan.{Plan}
+use Rattle.protocol.specs.Message.{Scope, whole, scope}
+use Rattle.protocol.specs.Connection.{Cause, own-shutdown, line-lost, at, roleOf, exchanged, farNumber, farStart, placed, ending, ended}
+use Rattle.protocol.specs.Judge.{Report, done, header, message, Out, opening, sent, Ending, goes-on, ends, Effect, accept, unchanged, ends-by, with-ping, with-stage, commit}
+use Rattle.protocol.specs.Call.{startRule, pingRule, shutdownRule, lostRule, isFresh}
+use Rattle.protocol.specs.Result.{bytesOfAll}
+use Rattle.protocol.specs.Observed.{Event, observe}
+use Rattle.protocol.proofs.Plans.{Takes}
+use Rattle.protocol.proofs.Views.{sendsOf, look, seen-path, Formed}
+use Rattle.history.specs.Log.{Call, start, shutdown, lost, State, queueAfter, payloadOf, outBy}
+use Rattle.history.specs.Log as log
+use Rattle.history.specs.Account.{Line, lineAfter, events, reported, writtenMessage, inScope}
+use Rattle.history.proofs.Good.{Ok, Good, setupOf, lineOf, holds, ownOf, farBy}
+use Rattle.history.proofs.Written.{Sendable, sent-read, nothing-read}
+
+-- ---- what is written is of no session
+
+-- a connection header is no message
+pub header-no-message : (r : Role) (payload : List ℕ) (own n : ℕ) → writtenMessage n (readMessage r (bytesOfAll payload (opening own ∷ []))) ≡ []
+unfolding bytesOfAll readMessage parseHeader typed kindOf pick
+header-no-message r payload own n = refl
+
+pub whole-no-event : (r : Role) (payload : List ℕ) (m : Message) (n : ℕ) → Sendable r m payload → scope m ≡ whole
+    → writtenMessage n (readMessage r (bytesOfAll payload (sent m ∷ []))) ≡ []
+whole-no-event r payload m n w e = ap (writtenMessage n) (sent-read r m payload w) ∙ ap (inScope n _) e
+
+-- a Ping is of no session, whatever its cookie
+ping-no-event : (r : Role) (cookie n : ℕ) → writtenMessage n (readMessage r (bytesOfAll [] (sent (msg.Ping cookie) ∷ []))) ≡ []
+unfolding bytesOfAll readMessage parseHeader typed allowed kindOf pick
+ping-no-event r cookie n = refl
+
+-- ---- before the headers are exchanged no number is used
+
+idle-formed : {r : Role} {x : Session} (b : Bool) → Formed r false x → Formed r b x
+idle-formed {r} {x} b f =
+    record {
+      outbound = f .outbound;
+      inbound = f .inbound;
+      waiting = f .waiting;
+      none = f .none;
+      finish = f .finish;
+      place = go (x .sides) (f .place);
+    }
+  where
+    go : (z : Sides) → placed r false z ≡ true → placed r b z ≡ true
+    go sides.Idle e = refl
+    go (sides.Opening w) e = absurd (false≢true (sym (and-false (isClient r)) ∙ e))
+    go (sides.Live o t) e = absurd (false≢true e)
+
+idle-look : {r : Role} (x : Session) (s : List ℕ) (far far′ : Ration) → Formed r false x → look far x s ≡ look far′ x s
+idle-look {r} x s far far′ f = seen-path refl (go (x .sides) (f .place)) refl
+  where
+    go : (z : Sides) → placed r false z ≡ true → sendsOf far z (take (x .waiting) s) (x .outbound) (x .finish) ≡ sendsOf far′ z (take (x .waiting) s) (x .outbound) (x .finish)
+    go sides.Idle e = refl
+    go (sides.Opening b) e = absurd (false≢true (sym (and-false (isClient r)) ∙ e))
+    go (sides.Live o t) e = absurd (false≢true e)
+
+module _ (s : State) (o : Ok (setupOf (s .connection)) s) where
+  -- an effect that concerns no session
+  abbrev lineEffect : Stage → Ping → Ending → Report → List Out → Effect
+  lineEffect st p en rep outs =
+      record { number = 0; session = at (s .connection) 0; stage = st; last = s .connection .last; ping = p; ending = en; report = rep; outs = outs }
+
+  pub stage-formed : (st : Stage) → (st ≡ s .connection .stage) ⊎ (exchanged (s .connection .stage) ≡ false) → (n : ℕ) → n < 128
+      → Formed (roleOf (s .connection .stage)) (exchanged st) (at (s .connection) n)
+  stage-formed st (inl e) n h = subst (λ (z : Stage). Formed (roleOf (s .connection .stage)) (exchanged z) (at (s .connection) n)) (sym e) (o .formed n h)
+  stage-formed st (inr e) n h =
+      idle-formed (exchanged st) (subst (λ (b : Bool). Formed (roleOf (s .connection .stage)) b (at (s .connection) n)) e (o .formed n h))
+
+  pub stage-look : (st : Stage) → (st ≡ s .connection .stage) ⊎ (exchanged (s .connection .stage) ≡ false) → (n : ℕ) → n < 128 → (sl : List ℕ)
+      → look (farBy st) (at (s .connection) n) sl ≡ look (farStart (s .connection)) (at (s .connection) n) sl
+  stage-look st (inl e) n h sl = ap (λ (z : Stage). look (farBy z) (at (s .connection) n) sl) e
+  stage-look st (inr e) n h sl =
+      idle-look (at (s .connection) n) sl (farBy st) (farStart (s .connection))
+      (subst (λ (b : Bool). Formed (roleOf (s .connection .stage)) b (at (s .connection) n)) e (o .formed n h))
+
+  pub line-good : (k : Call) (st : Stage) (p : Ping) (en : Ending) (rep : Report) (outs : List Out)
+      → queueAfter (s .connection) (s .queue) k (accept (lineEffect st p en rep outs)) ≡ s .queue → roleOf st ≡ roleOf (s .connection .stage) → farNumber st < 65_536
+      → (st ≡ s .connection .stage) ⊎ (exchanged (s .connection .stage) ≡ false)
+      → ((m : ℕ) → events (roleOf (s .connection .stage)) m (outBy s k (accept (lineEffect st p en rep outs))) ≡ [])
+      → lineAfter (lineOf (s .connection)) (outBy s k (accept (lineEffect st p en rep outs))) ≡ lineOf (commit (s .connection) (lineEffect st p en rep outs))
+      → Good (setupOf (s .connection)) s k (lineEffect st p en rep outs)
+  unfolding fold
+  line-good k st p en rep outs hq hr hf stages none line =
+      record {
+        inside = omega arith;
+        last = o .last;
+        role = hr;
+        far = hf;
+        stages = stages;
+        formed = stage-formed st stages 0 (omega arith);
+        fits = subst (λ (q : List ℕ). at (s .connection) 0 .waiting ≤ length (slot 0 q)) (sym hq) (o .fits 0 (omega arith));
+        seen =
+            ap (λ (q : List ℕ). look (farBy st) (at (s .connection) 0) (slot 0 q)) hq ∙ stage-look st stages 0 (omega arith) (slot 0 (s .queue))
+            ∙ ap (λ (es : List Event). fold (observe (ownOf (setupOf (s .connection))) (farStart (s .connection))) (holds s 0) es) (sym (none 0));
+        others = λ m _. none m;
+        frame = λ m _ _. ap (slot m) hq;
+        line = line;
+      }
+
+  client-is : (r : Role) → isServer r ≡ false → role.Client ≡ r
+  client-is role.Client e = refl
+  client-is role.Server e = absurd (true≢false e)
+
+  server-is : (r : Role) → isClient r ≡ false → isServer r ≡ true
+  server-is role.Client e = absurd (true≢false e)
+  server-is role.Server e = refl
+
+  fresh-not-up : (st : Stage) → isFresh st ≡ true → exchanged st ≡ false
+  fresh-not-up (stage.Fresh r) e = refl
+  fresh-not-up stage.Started e = refl
+  fresh-not-up (stage.Up r far) e = absurd (false≢true e)
+
+  pub start-good : (room : List ℕ) → Takes (Good (setupOf (s .connection)) s (start room)) (startRule (s .connection) (length room))
+  unfolding startRule
+  start-good room _ _ _ server fresh =
+      line-good (start room) stage.Started (s .connection .ping) goes-on done (opening (s .connection .own) ∷ []) refl
+      (client-is (roleOf (s .connection .stage)) server) (omega arith) (inr (fresh-not-up (s .connection .stage) (not-false _ fresh)))
+      (λ m. header-no-message (roleOf (s .connection .stage)) [] (s .connection .own) m) refl
+
+  pub ping-good : (cookie : ℕ) (room : List ℕ)
+      → Takes (Good (setupOf (s .connection)) s (log.ping cookie room)) (pingRule (s .connection) cookie (length room))
+  unfolding pingRule
+  ping-good cookie room _ _ _ _ _ =
+      line-good (log.ping cookie room) (s .connection .stage) (ping.Outstanding cookie) goes-on done (sent (msg.Ping cookie) ∷ []) refl refl (o .far) (inl refl)
+      (λ m. ping-no-event (roleOf (s .connection .stage)) cookie m) refl
+
+  pub shutdown-good : (room : List ℕ) → Takes (Good (setupOf (s .connection)) s (shutdown room)) (shutdownRule (s .connection) (length room))
+  unfolding shutdownRule
+  shutdown-good room _ _ _ _ client =
+      line-good (shutdown room) (s .connection .stage) (s .connection .ping) (ends own-shutdown) done (sent (msg.Shutdown 0) ∷ []) refl refl (o .far) (inl refl)
+      (λ m. whole-no-event (roleOf (s .connection .stage)) [] (msg.Shutdown 0) m
+      (record { shift = omega arith; session = omega arith; number = omega arith; sender = server-is (roleOf (s .connection .stage)) client; flags = refl; body = omega arith }) refl) refl
+
+  pub lost-good : Takes (Good (setupOf (s .connection)) s lost) (lostRule (s .connection))
+  unfolding lostRule
+  lost-good _ _ =
+      line-good lost (s .connection .stage) (s .connection .ping) (ends line-lost) done [] refl refl (o .far) (inl refl)
+      (λ m. nothing-read (roleOf (s .connection .stage)) [] m) refl

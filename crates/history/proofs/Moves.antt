@@ -1,0 +1,106 @@
+-- Put and turn, where they are taken, keep what is observed and touch one slot of the queue: from their lemmas about one session.
+use mathlib.Core.Path.{_≡_, refl, sym, ap, _∙_, subst}
+use mathlib.Core.Bool.{Bool, true, false, not}
+use mathlib.Core.List.{List, [], _∷_}
+use Prim.Native.Nat.{ℕ, _+_, _-_, _≤_, _<_}
+use native.Mathlib.Omega.{arith}
+use lib.ListN.{length}
+use lib.Dec.{eqb, leb, ltb}
+use borrow.Author.Tests.{leb-false, ltb-false, eqb-true}
+use Rattle.laws.proofs.Circle.{nearest-lt}
+use Rattle.laws.proofs.Tests.{not-false}
+use Rattle.protocol.specs.declared.Session.{Session}
+use Rattle.protocol.specs.Slot.{slotSize, queueSize}
+use Rattle.protocol.specs.Queue.{slot, withSlot, putSlot, turnSlot}
+use Rattle.protocol.specs.Session.{queued}
+use Rattle.protocol.specs.Plan.{Plan, andThen}
+use Rattle.protocol.specs.Receipt.{Taken}
+use Rattle.protocol.specs.Ask.{putAsk, turnAsk, ready}
+use Rattle.protocol.specs.Connection.{at, roleOf, exchanged, farStart, ownStart}
+use Rattle.protocol.specs.Judge.{done, served, accept, with-session}
+use Rattle.protocol.specs.Call.{putRule, turnRule, nextReady, serving}
+use Rattle.protocol.specs.Observed.{Event, puts}
+use Rattle.protocol.proofs.Plans.{Takes, takes-then, takes-map}
+use Rattle.protocol.proofs.Views.{Formed}
+use Rattle.protocol.proofs.Sound.{Sound}
+use Rattle.protocol.proofs.Slots.{slot-same, slot-other, put-length, turn-length, slot-length}
+use Rattle.protocol.proofs.Asks.{put-sound}
+use Rattle.protocol.proofs.Turns.{turn-sound}
+use Rattle.history.specs.Log.{Call, put, turn, State}
+use Rattle.history.proofs.Good.{Ok, Good, ForSession, session-good, setupOf}
+use Rattle.history.proofs.Written.{only-own, only-other}
+use Rattle.history.proofs.Steps.{formed-up, own-range, far-range}
+
+module _ (s : State) (o : Ok (setupOf (s .connection)) s) where
+  full : (q : ℕ) → not (eqb q queueSize) ≡ false → q ≡ queueSize
+  full q e = eqb-true q queueSize (not-false (eqb q queueSize) e)
+
+  pub put-good : (n : ℕ) (bytes : List ℕ) → Takes (Good (setupOf (s .connection)) s (put n bytes)) (putRule (s .connection) n (length bytes) (length (s .queue)))
+  unfolding putRule putAsk
+  put-good n bytes _ _ up queue num side room =
+      let hn = leb-false 128 n num in
+      let hu = not-false (exchanged (s .connection .stage)) up in
+      let hq = full (length (s .queue)) queue in
+      let x = at (s .connection) n in
+      let sl = slot n (s .queue) in
+      let f = formed-up s o hu n hn in
+      let long = o .fits n hn in
+      let small = f .waiting in
+      let free : length bytes ≤ slotSize - at (s .connection) n .waiting = ltb-false _ _ room in
+      let fill : at (s .connection) n .waiting + length bytes ≤ slotSize = omega arith in
+      let size = put-length (x .waiting) bytes sl fill long in
+      let same = slot-same n (putSlot (x .waiting) bytes sl) (s .queue) hn hq size in
+      let t : Taken = record { session = queued (length bytes) (at (s .connection) n); sent = []; late = false } in
+      let snd = put-sound (roleOf (s .connection .stage)) (ownStart (s .connection)) (farStart (s .connection)) x sl bytes f long side room in
+      session-good (setupOf (s .connection)) s (put n bytes) n (s .connection .last) done (puts bytes ∷ []) t o
+      (record {
+        inside = hn;
+        last-inside = o .last;
+        up = hu;
+        sound = subst (λ (l : List ℕ). Sound (roleOf (s .connection .stage)) (ownStart (s .connection)) (farStart (s .connection)) x sl (puts bytes ∷ []) [] l t) (sym same) snd;
+        told = only-own n (puts bytes);
+        not-told = λ m d. only-other m n (puts bytes) d;
+        frame = λ m _ d. slot-other n (putSlot (x .waiting) bytes sl) (s .queue) hn hq size m (λ e. d (sym e));
+        line = refl;
+      })
+
+  pub turn-good : (room : List ℕ) → Takes (Good (setupOf (s .connection)) s (turn room)) (turnRule (s .connection) (length (s .queue)) (length room))
+  unfolding turnRule
+  turn-good room _ _ up _ queue =
+      takes-then (Good (setupOf (s .connection)) s (turn room)) (with-session (s .connection) n n (served n)) (turnAsk (ownStart (s .connection)) (farStart (s .connection)) x)
+      (takes-map (λ t snd. session-good (setupOf (s .connection)) s (turn room) n n (served n) [] t o (taken t snd)) (turnAsk (ownStart (s .connection)) (farStart (s .connection)) x)
+      (turn-sound (roleOf (s .connection .stage)) (ownStart (s .connection)) (farStart (s .connection)) x sl f (own-range s o) (far-range s o) (o .fits n hn)))
+    where
+      n : ℕ
+      n = nextReady (s .connection)
+
+      hn : nextReady (s .connection) < 128
+      hn = nearest-lt (λ i. ready (at (s .connection) i)) (s .connection .last) (o .last)
+
+      x : Session
+      x = at (s .connection) (nextReady (s .connection))
+
+      sl : List ℕ
+      sl = slot (nextReady (s .connection)) (s .queue)
+
+      f : Formed (roleOf (s .connection .stage)) true (at (s .connection) (nextReady (s .connection)))
+      f = formed-up s o (not-false (exchanged (s .connection .stage)) up) n hn
+
+      taken : (t : Taken) → Sound (roleOf (s .connection .stage)) (ownStart (s .connection)) (farStart (s .connection)) (at (s .connection) (nextReady (s .connection))) (slot (nextReady (s .connection)) (s .queue)) []
+          (slot (nextReady (s .connection)) (s .queue))
+          (turnSlot (at (s .connection) (nextReady (s .connection)) .waiting) (at (s .connection) (nextReady (s .connection)) .waiting - t .session .waiting) (slot (nextReady (s .connection)) (s .queue))) t
+          → ForSession (setupOf (s .connection)) s (turn room) (nextReady (s .connection)) (nextReady (s .connection)) (served (nextReady (s .connection))) [] t
+      taken t snd =
+          let hq = full (length (s .queue)) queue in
+          let size = turn-length (x .waiting) (x .waiting - t .session .waiting) sl (f .waiting) in
+          let same = slot-same n (turnSlot (x .waiting) (x .waiting - t .session .waiting) sl) (s .queue) hn hq size in
+          record {
+            inside = hn;
+            last-inside = hn;
+            up = not-false (exchanged (s .connection .stage)) up;
+            sound = subst (λ (l : List ℕ). Sound (roleOf (s .connection .stage)) (ownStart (s .connection)) (farStart (s .connection)) x sl [] sl l t) (sym same) snd;
+            told = refl;
+            not-told = λ _ _. refl;
+            frame = λ m _ d. slot-other n (turnSlot (x .waiting) (x .waiting - t .session .waiting) sl) (s .queue) hn hq size m (λ e. d (sym e));
+            line = refl;
+          }

@@ -1,0 +1,97 @@
+-- What a call writes is read back by the reader as the message meant: from the round trip of the wire format.
+use mathlib.Core.Path.{_≡_, refl, sym, ap, _∙_}
+use mathlib.Core.Bool.{Bool, true, false, _&&_}
+use mathlib.Core.List.{List, [], _∷_, _++_, append-nil}
+use Prim.Native.Nat.{ℕ, _*_, _≤_, _<_}
+use native.Mathlib.Nat.{mul-one}
+use native.Mathlib.Omega.{arith}
+use lib.ListN.{length, take}
+use lib.Seq.{length-take-le}
+use borrow.Author.Tests.{lt-ltb, eq-eqb, eqb-true, ne-eqb}
+use Rattle.laws.specs.Pick.{pick}
+use Rattle.laws.specs.Result.{ok, refused, violation}
+use Rattle.laws.proofs.Pick.{yes, no}
+use Rattle.laws.proofs.Tests.{and-both}
+use Rattle.wire.specs.declared.Role.{Role}
+use Rattle.wire.specs.declared.Role.the-variants as role
+use Rattle.wire.specs.declared.Message.{Message}
+use Rattle.wire.specs.declared.Message.the-variants as msg
+use Rattle.wire.specs.Message.{maySend, flagsAllowed, kindOfMessage, effectiveIncrement, shiftOf, secondByte, numberOf, bodyLength, header, writable, readMessage}
+use Rattle.wire.proofs.Laws.{read-written}
+use Rattle.protocol.specs.Slot.{slotSize}
+use Rattle.protocol.specs.Message.{SessionMessage, data-of, increment-of, abort-of, close-of, acknowledgment-of, Scope, of-session, scope, numbered}
+use Rattle.protocol.specs.Judge.{Out, sent, opening}
+use Rattle.protocol.specs.Result.{bytesOf, bytesOfAll}
+use Rattle.protocol.specs.Observed.{Event, wrote, fromRole}
+use Rattle.protocol.proofs.Sound.{Fits, carried}
+use Rattle.history.specs.Account.{only, inScope, writtenMessage}
+
+-- ---- a message without a body, or with one
+
+-- what the writer asks of a message, and the reader gives back
+pub record Sendable (r : Role) (m : Message) (payload : List ℕ) : Type 0 where
+  pub shift : shiftOf m < 8
+  pub session : secondByte m < 128
+  pub number : numberOf m < 65_536
+  pub sender : maySend r (kindOfMessage m) ≡ true
+  pub flags : flagsAllowed r m ≡ true
+  pub body : bodyLength m ≤ length payload
+
+pub sent-read : (r : Role) (m : Message) (payload : List ℕ) → Sendable r m payload → readMessage r (bytesOfAll payload (sent m ∷ [])) ≡ ok m
+unfolding writable bytesOfAll
+sent-read r m payload w =
+    let body = take (bodyLength m) payload in
+    let size : length (take (bodyLength m) payload) ≡ bodyLength m = length-take-le (bodyLength m) payload (w .body) in
+    let may : writable r m (length (take (bodyLength m) payload)) ≡ true =
+    and-both
+    (and-both (and-both (and-both (lt-ltb _ _ (w .shift)) (lt-ltb _ _ (w .session))) (w .sender)) (w .flags))
+    (eq-eqb (bodyLength m) (length (take (bodyLength m) payload)) (sym size)) in
+    read-written r m body (w .number) may []
+
+-- ---- messages of a session
+
+unshifted : (n : ℕ) → effectiveIncrement 0 n ≡ n
+unfolding effectiveIncrement
+unshifted n = mul-one n
+
+scope-numbered : (i : ℕ) (m : SessionMessage) → scope (numbered i m) ≡ of-session i m
+scope-numbered i (data-of n begins close eof ack) = refl
+scope-numbered i (increment-of n) = ap (λ (k : ℕ). of-session i (increment-of k)) (unshifted n)
+scope-numbered i (abort-of partial) = refl
+scope-numbered i close-of = refl
+scope-numbered i acknowledgment-of = refl
+
+sendable : (r : Role) (i : ℕ) (m : SessionMessage) (payload : List ℕ) → i < 128 → fromRole r m ≡ true → Fits m → carried m ≤ length payload
+    → Sendable r (numbered i m) payload
+sendable r i (data-of n begins close eof ack) payload h f fits l =
+    record { shift = omega arith; session = h; number = omega arith; sender = refl; flags = f; body = l }
+sendable r i (increment-of n) payload h f fits l =
+    record { shift = omega arith; session = h; number = fits; sender = refl; flags = refl; body = l }
+sendable r i (abort-of partial) payload h f fits l =
+    record { shift = omega arith; session = h; number = omega arith; sender = refl; flags = f; body = l }
+sendable r i close-of payload h f fits l = record { shift = omega arith; session = h; number = omega arith; sender = f; flags = refl; body = l }
+sendable r i acknowledgment-of payload h f fits l =
+    record { shift = omega arith; session = h; number = omega arith; sender = f; flags = refl; body = l }
+
+pub numbered-read : (r : Role) (i : ℕ) (m : SessionMessage) (payload : List ℕ) → i < 128 → fromRole r m ≡ true → Fits m → carried m ≤ length payload
+    → readMessage r (bytesOfAll payload (sent (numbered i m) ∷ [])) ≡ ok (numbered i m)
+numbered-read r i m payload h f fits l = sent-read r (numbered i m) payload (sendable r i m payload h f fits l)
+
+-- ---- as events
+
+pub only-own : (n : ℕ) (e : Event) → only n n e ≡ e ∷ []
+only-own n e = yes _ _ _ (eq-eqb n n refl)
+
+pub only-other : (n i : ℕ) (e : Event) → (i ≡ n → ⊥) → only n i e ≡ []
+only-other n i e d = no _ _ _ (ne-eqb i n d)
+
+pub written-own : (i : ℕ) (m : SessionMessage) → writtenMessage i (ok (numbered i m)) ≡ wrote m ∷ []
+written-own i m = ap (inScope i wrote) (scope-numbered i m) ∙ only-own i (wrote m)
+
+pub written-other : (n i : ℕ) (m : SessionMessage) → (i ≡ n → ⊥) → writtenMessage n (ok (numbered i m)) ≡ []
+written-other n i m d = ap (inScope n wrote) (scope-numbered i m) ∙ only-other n i (wrote m) d
+
+-- nothing written is no message
+pub nothing-read : (r : Role) (payload : List ℕ) (n : ℕ) → writtenMessage n (readMessage r (bytesOfAll payload [])) ≡ []
+unfolding bytesOfAll readMessage pick
+nothing-read r payload n = refl

@@ -1,0 +1,157 @@
+-- What a log tells, of the connection and of each session number; the engine's state is not named.
+use Prim.Native.Nat.{ℕ}
+use mathlib.Core.Bool.{Bool, true, false}
+use mathlib.Core.List.{List, [], _∷_, _++_}
+use lib.Dec.{eqb}
+use Rattle.laws.specs.Pick.{pick}
+use Rattle.laws.specs.Result.{Result, ok, refused, violation}
+use Rattle.laws.specs.Runs.{fold}
+use Rattle.ration.specs.declared.Ration.{Ration}
+use Rattle.ration.specs.declared.Ration.the-variants as ration
+use Rattle.ration.specs.Ration.{fromHeader}
+use Rattle.wire.specs.declared.Role.{Role}
+use Rattle.wire.specs.declared.Message.{Message}
+use Rattle.wire.specs.declared.Message.the-variants as msg
+use Rattle.wire.specs.Message.{readMessage}
+use Rattle.protocol.specs.declared.Stage.{Stage}
+use Rattle.protocol.specs.declared.Stage.the-variants as stage
+use Rattle.protocol.specs.declared.Ping.{Ping}
+use Rattle.protocol.specs.declared.Ping.the-variants as ping
+use Rattle.protocol.specs.declared.Setup.{Setup}
+use Rattle.protocol.specs.Message.{SessionMessage, Scope, whole, of-session, scope}
+use Rattle.protocol.specs.Connection.{roleOf, farNumber}
+use Rattle.protocol.specs.Judge.{Report, done, served, header, message}
+use Rattle.protocol.specs.Observed.{Event, opens, finishes, aborts, puts, received, wrote, silent, unused, Seen, observe}
+use Rattle.history.specs.Log.{Call, start, open-session, put, finish, turn, grant, abort, close, shutdown, lost, receive, Entry}
+use Rattle.history.specs.Log as log
+
+-- ---- of the connection: whether it is over, how far the headers are exchanged, the ping that is not answered
+
+pub record Line : Type 0 where
+  pub over : Bool
+  pub stage : Stage
+  pub ping : Ping
+
+abbrev pub finished : Line → Line
+finished l = record { over = true; stage = l .stage; ping = l .ping }
+
+abbrev pub withStage : Stage → Line → Line
+withStage s l = record { over = l .over; stage = s; ping = l .ping }
+
+abbrev pub withPing : Ping → Line → Line
+withPing p l = record { over = l .over; stage = l .stage; ping = p }
+
+-- a lost line and our shutdown make it over
+abbrev pub lineByCall : Line → Call → Line
+lineByCall l (start room) = withStage stage.Started l
+lineByCall l (open-session n) = l
+lineByCall l (put n bytes) = l
+lineByCall l (finish n) = l
+lineByCall l (turn room) = l
+lineByCall l (grant n amount room) = l
+lineByCall l (abort n partial room) = l
+lineByCall l (close n room) = l
+lineByCall l (log.ping cookie room) = withPing (ping.Outstanding cookie) l
+lineByCall l (shutdown room) = finished l
+lineByCall l lost = finished l
+lineByCall l (receive input room) = l
+
+-- and so do a Shutdown or an Error taken
+abbrev pub lineByMessage : Line → Message → Line
+lineByMessage l (msg.NoOperation n) = l
+lineByMessage l (msg.Shutdown n) = finished l
+lineByMessage l (msg.Ping k) = l
+lineByMessage l (msg.PingAck k) = withPing ping.None l
+lineByMessage l (msg.Error n) = finished l
+lineByMessage l (msg.IncrementRation s i n) = l
+lineByMessage l (msg.Abort p i n) = l
+lineByMessage l (msg.Close i) = l
+lineByMessage l (msg.Acknowledgment i) = l
+lineByMessage l (msg.Data o c e a i n) = l
+
+abbrev pub lineByReport : Line → Call → Report → Line
+lineByReport l k done = lineByCall l k
+lineByReport l k (served n) = l
+lineByReport l k (header far) = withStage (stage.Up (roleOf (l .stage)) far) l
+lineByReport l k (message m late) = lineByMessage l m
+
+-- a refused call changes nothing, except that a refusal from 20 up makes the connection over
+abbrev pub lineByAnswer : Line → Call → Result Report → Line
+lineByAnswer l k (ok r) = lineByReport l k r
+lineByAnswer l k (refused n) = l
+lineByAnswer l k (violation n) = finished l
+
+abbrev pub lineAfter : Line → Entry → Line
+lineAfter l e = lineByAnswer l (e .call) (e .answer)
+
+-- ---- of a session number: what happens to it
+
+abbrev pub only : ℕ → ℕ → Event → List Event
+only n i e = pick (eqb i n) (e ∷ []) []
+
+-- what one of our calls that is taken does
+abbrev pub asked : ℕ → Call → List Event
+asked n (start room) = []
+asked n (open-session i) = only n i opens
+asked n (put i bytes) = only n i (puts bytes)
+asked n (finish i) = only n i finishes
+asked n (turn room) = []
+asked n (grant i amount room) = []
+asked n (abort i partial room) = only n i aborts
+asked n (close i room) = []
+asked n (log.ping cookie room) = []
+asked n (shutdown room) = []
+asked n lost = []
+asked n (receive input room) = []
+
+abbrev pub inScope : ℕ → (SessionMessage → Event) → Scope → List Event
+inScope n f whole = []
+inScope n f (of-session i m) = only n i (f m)
+
+-- a message that is taken, by the report
+abbrev pub reported : ℕ → Call → Report → List Event
+reported n k done = asked n k
+reported n k (served i) = []
+reported n k (header far) = []
+reported n k (message m late) = inScope n (λ s. received s late) (scope m)
+
+-- a message that is written, as the reader reads it
+abbrev pub writtenMessage : ℕ → Result Message → List Event
+writtenMessage n (ok m) = inScope n wrote (scope m)
+writtenMessage n (refused k) = []
+writtenMessage n (violation k) = []
+
+abbrev pub eventsByAnswer : Role → ℕ → Call → List ℕ → Result Report → List Event
+eventsByAnswer r n k bytes (ok p) = reported n k p ++ writtenMessage n (readMessage r bytes)
+eventsByAnswer r n k bytes (refused j) = []
+eventsByAnswer r n k bytes (violation j) = []
+
+abbrev pub events : Role → ℕ → Entry → List Event
+events r n e = eventsByAnswer r n (e .call) (e .wrote) (e .answer)
+
+-- ---- all that a log tells of a number
+
+pub record Account : Type 0 where
+  pub line : Line
+  pub seen : Seen
+
+-- nothing has happened
+abbrev pub blankAccount : Setup → Account
+blankAccount s =
+    record {
+      line = record { over = false; stage = stage.Fresh (s .role); ping = ping.None };
+      seen = record { standing = unused; sends = silent; inbound = ration.Finite 0 };
+    }
+
+abbrev pub farOf : Line → Ration
+farOf l = fromHeader (farNumber (l .stage))
+
+unfoldable pub accountAfter : Setup → ℕ → Account → Entry → Account
+accountAfter s n a e =
+    record {
+      line = lineAfter (a .line) e;
+      seen = fold (observe (fromHeader (s .header)) (farOf (a .line))) (a .seen) (events (s .role) n e);
+    }
+
+unfoldable pub observed : Setup → ℕ → List Entry → Account
+observed s n es = fold (accountAfter s n) (blankAccount s) es

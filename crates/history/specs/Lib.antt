@@ -1,0 +1,3 @@
+-- Logs of calls, what they tell, and what is claimed of every one of them.
+pub mod Log
+pub mod Account
