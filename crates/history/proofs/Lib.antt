@@ -6,3 +6,4 @@ pub mod Moves
 pub mod Lines
 pub mod Receives
 pub mod Simulation
+pub mod Fair

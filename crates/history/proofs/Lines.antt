@@ -31,14 +31,16 @@ use Rattle.protocol.specs.Connection.{Cause, own-shutdown, line-lost, at, roleO
 use Rattle.protocol.specs.Judge.{Report, done, header, message, Out, opening, sent, Ending, goes-on, ends, Effect, accept, unchanged, ends-by, with-ping, with-stage, commit}
 use Rattle.protocol.specs.Call.{startRule, pingRule, shutdownRule, lostRule, isFresh}
 use Rattle.protocol.specs.Result.{bytesOfAll}
-use Rattle.protocol.specs.Observed.{Event, observe}
+use Rattle.protocol.specs.Observed.{Event, observe, Seen, isReady}
 use Rattle.protocol.proofs.Plans.{Takes}
 use Rattle.protocol.proofs.Views.{sendsOf, look, seen-path, Formed}
 use Rattle.history.specs.Log.{Call, start, shutdown, lost, State, queueAfter, payloadOf, outBy}
 use Rattle.history.specs.Log as log
 use Rattle.history.specs.Account.{Line, lineAfter, events, reported, writtenMessage, inScope}
 use Rattle.history.proofs.Good.{Ok, Good, setupOf, lineOf, holds, ownOf, farBy}
-use Rattle.history.proofs.Written.{Sendable, sent-read, nothing-read}
+use Rattle.history.proofs.Written.{Sendable, sent-read, nothing-read, only-own}
+use Rattle.history.specs.Claims.{dataNumber}
+use Rattle.laws.proofs.Runs.{still}
 
 -- ---- what is written is of no session
 
@@ -55,6 +57,25 @@ whole-no-event r payload m n w e = ap (writtenMessage n) (sent-read r m payload 
 ping-no-event : (r : Role) (cookie n : ℕ) → writtenMessage n (readMessage r (bytesOfAll [] (sent (msg.Ping cookie) ∷ []))) ≡ []
 unfolding bytesOfAll readMessage parseHeader typed allowed kindOf pick
 ping-no-event r cookie n = refl
+
+append-empty : (a b : List Event) → a ++ b ≡ [] → b ≡ []
+append-empty [] b e = e
+append-empty (x ∷ a) b e = absurd (let z : _≡_ {A = ℕ} 0 1 = cc in omega arith)
+
+-- what no session sees is no Data message
+no-data : (r : Result Message) → ((n : ℕ) → writtenMessage n r ≡ []) → dataNumber r ≡ []
+no-data (ok (msg.NoOperation n)) h = refl
+no-data (ok (msg.Shutdown n)) h = refl
+no-data (ok (msg.Ping k)) h = refl
+no-data (ok (msg.PingAck k)) h = refl
+no-data (ok (msg.Error n)) h = refl
+no-data (ok (msg.IncrementRation t i n)) h = refl
+no-data (ok (msg.Abort p i n)) h = refl
+no-data (ok (msg.Close i)) h = refl
+no-data (ok (msg.Acknowledgment i)) h = refl
+no-data (ok (msg.Data b c e a i n)) h = absurd (let p = sym (only-own i _) ∙ h i in let z : _≡_ {A = ℕ} 0 1 = cc in omega arith)
+no-data (refused n) h = refl
+no-data (violation n) h = refl
 
 -- ---- before the headers are exchanged no number is used
 
@@ -123,6 +144,10 @@ module _ (s : State) (o : Ok (setupOf (s .connection)) s) where
         others = λ m _. none m;
         frame = λ m _ _. ap (slot m) hq;
         line = line;
+        moves = still (no-data (readMessage (roleOf (s .connection .stage)) _) (λ m. append-empty (reported m k rep) _ (none m))) refl;
+        lasts =
+            λ hr _ _. ap (λ (q : List ℕ). isReady (look (farBy st) (at (s .connection) 0) (slot 0 q) .sends)) hq
+            ∙ ap (λ (v : Seen). isReady (v .sends)) (stage-look st stages 0 (omega arith) (slot 0 (s .queue))) ∙ hr;
       }
 
   client-is : (r : Role) → isServer r ≡ false → role.Client ≡ r

@@ -7,7 +7,8 @@ use native.Mathlib.Omega.{arith}
 use lib.ListN.{length}
 use lib.Dec.{eqb, leb, ltb}
 use borrow.Author.Tests.{leb-false, ltb-false, eqb-true}
-use Rattle.laws.proofs.Circle.{nearest-lt}
+use Rattle.laws.proofs.Circle.{nearest-lt, nearest-found}
+use Rattle.laws.specs.Circle.{gap}
 use Rattle.laws.proofs.Tests.{not-false}
 use Rattle.protocol.specs.declared.Session.{Session}
 use Rattle.protocol.specs.Slot.{slotSize, queueSize}
@@ -21,13 +22,13 @@ use Rattle.protocol.specs.Judge.{done, served, accept, with-session}
 use Rattle.protocol.specs.Call.{putRule, turnRule, nextReady, serving}
 use Rattle.protocol.specs.Observed.{Event, puts}
 use Rattle.protocol.proofs.Plans.{Takes, takes-then, takes-map}
-use Rattle.protocol.proofs.Views.{Formed}
+use Rattle.protocol.proofs.Views.{Formed, ready-look}
 use Rattle.protocol.proofs.Sound.{Sound}
 use Rattle.protocol.proofs.Slots.{slot-same, slot-other, put-length, turn-length, slot-length}
 use Rattle.protocol.proofs.Asks.{put-sound}
 use Rattle.protocol.proofs.Turns.{turn-sound}
 use Rattle.history.specs.Log.{Call, put, turn, State}
-use Rattle.history.proofs.Good.{Ok, Good, ForSession, session-good, setupOf}
+use Rattle.history.proofs.Good.{Ok, Good, ForSession, session-good, setupOf, readyAt}
 use Rattle.history.proofs.Written.{only-own, only-other}
 use Rattle.history.proofs.Steps.{formed-up, own-range, far-range}
 
@@ -52,12 +53,13 @@ module _ (s : State) (o : Ok (setupOf (s .connection)) s) where
       let same = slot-same n (putSlot (x .waiting) bytes sl) (s .queue) hn hq size in
       let t : Taken = record { session = queued (length bytes) (at (s .connection) n); sent = []; late = false } in
       let snd = put-sound (roleOf (s .connection .stage)) (ownStart (s .connection)) (farStart (s .connection)) x sl bytes f long side room in
-      session-good (setupOf (s .connection)) s (put n bytes) n (s .connection .last) done (puts bytes ∷ []) t o
+      session-good (setupOf (s .connection)) s (put n bytes) n (s .connection .last) done (puts bytes ∷ []) false t o
       (record {
+        mark = refl;
         inside = hn;
         last-inside = o .last;
         up = hu;
-        sound = subst (λ (l : List ℕ). Sound (roleOf (s .connection .stage)) (ownStart (s .connection)) (farStart (s .connection)) x sl (puts bytes ∷ []) [] l t) (sym same) snd;
+        sound = subst (λ (l : List ℕ). Sound (roleOf (s .connection .stage)) (ownStart (s .connection)) (farStart (s .connection)) x sl (puts bytes ∷ []) [] l false t) (sym same) snd;
         told = only-own n (puts bytes);
         not-told = λ m d. only-other m n (puts bytes) d;
         frame = λ m _ d. slot-other n (putSlot (x .waiting) bytes sl) (s .queue) hn hq size m (λ e. d (sym e));
@@ -68,7 +70,7 @@ module _ (s : State) (o : Ok (setupOf (s .connection)) s) where
   unfolding turnRule
   turn-good room _ _ up _ queue =
       takes-then (Good (setupOf (s .connection)) s (turn room)) (with-session (s .connection) n n (served n)) (turnAsk (ownStart (s .connection)) (farStart (s .connection)) x)
-      (takes-map (λ t snd. session-good (setupOf (s .connection)) s (turn room) n n (served n) [] t o (taken t snd)) (turnAsk (ownStart (s .connection)) (farStart (s .connection)) x)
+      (takes-map (λ t snd. session-good (setupOf (s .connection)) s (turn room) n n (served n) [] true t o (taken t snd)) (turnAsk (ownStart (s .connection)) (farStart (s .connection)) x)
       (turn-sound (roleOf (s .connection .stage)) (ownStart (s .connection)) (farStart (s .connection)) x sl f (own-range s o) (far-range s o) (o .fits n hn)))
     where
       n : ℕ
@@ -86,19 +88,25 @@ module _ (s : State) (o : Ok (setupOf (s .connection)) s) where
       f : Formed (roleOf (s .connection .stage)) true (at (s .connection) (nextReady (s .connection)))
       f = formed-up s o (not-false (exchanged (s .connection .stage)) up) n hn
 
+      near : (m : ℕ) → m < 128 → readyAt s m ≡ true → gap (s .connection .last) (nextReady (s .connection)) ≤ gap (s .connection .last) m
+      near m h e =
+          nearest-found (λ i. ready (at (s .connection) i)) (s .connection .last) m (o .last) h
+          (ready-look (farStart (s .connection)) (at (s .connection) m) (slot m (s .queue)) (o .fits m h) ∙ e) .near
+
       taken : (t : Taken) → Sound (roleOf (s .connection .stage)) (ownStart (s .connection)) (farStart (s .connection)) (at (s .connection) (nextReady (s .connection))) (slot (nextReady (s .connection)) (s .queue)) []
           (slot (nextReady (s .connection)) (s .queue))
-          (turnSlot (at (s .connection) (nextReady (s .connection)) .waiting) (at (s .connection) (nextReady (s .connection)) .waiting - t .session .waiting) (slot (nextReady (s .connection)) (s .queue))) t
-          → ForSession (setupOf (s .connection)) s (turn room) (nextReady (s .connection)) (nextReady (s .connection)) (served (nextReady (s .connection))) [] t
+          (turnSlot (at (s .connection) (nextReady (s .connection)) .waiting) (at (s .connection) (nextReady (s .connection)) .waiting - t .session .waiting) (slot (nextReady (s .connection)) (s .queue))) true t
+          → ForSession (setupOf (s .connection)) s (turn room) (nextReady (s .connection)) (nextReady (s .connection)) (served (nextReady (s .connection))) [] true t
       taken t snd =
           let hq = full (length (s .queue)) queue in
           let size = turn-length (x .waiting) (x .waiting - t .session .waiting) sl (f .waiting) in
           let same = slot-same n (turnSlot (x .waiting) (x .waiting - t .session .waiting) sl) (s .queue) hn hq size in
           record {
+            mark = (refl, near);
             inside = hn;
             last-inside = hn;
             up = not-false (exchanged (s .connection .stage)) up;
-            sound = subst (λ (l : List ℕ). Sound (roleOf (s .connection .stage)) (ownStart (s .connection)) (farStart (s .connection)) x sl [] sl l t) (sym same) snd;
+            sound = subst (λ (l : List ℕ). Sound (roleOf (s .connection .stage)) (ownStart (s .connection)) (farStart (s .connection)) x sl [] sl l true t) (sym same) snd;
             told = refl;
             not-told = λ _ _. refl;
             frame = λ m _ d. slot-other n (turnSlot (x .waiting) (x .waiting - t .session .waiting) sl) (s .queue) hn hq size m (λ e. d (sym e));

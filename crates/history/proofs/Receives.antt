@@ -22,8 +22,8 @@ use Rattle.protocol.specs.Queue.{slot}
 use Rattle.protocol.specs.Plan.{Plan, stop, check, take, settle}
 use Rattle.protocol.specs.Message.{SessionMessage, Scope, whole, of-session, scope}
 use Rattle.protocol.specs.Receipt.{Taken, receipt}
-use Rattle.protocol.specs.Connection.{shutdown-received, error-received, at, roleOf, exchanged, farStart, ownStart}
-use Rattle.protocol.specs.Judge.{Report, header, message, Out, opening, sent, goes-on, ends, Effect, Decision, refuse, violate, accept, with-session, breach, judgeWhole, judgeScope, judge}
+use Rattle.protocol.specs.Connection.{shutdown-received, error-received, line-lost, at, roleOf, exchanged, farStart, ownStart}
+use Rattle.protocol.specs.Judge.{Report, header, message, Out, opening, sent, goes-on, ends, Effect, Decision, refuse, violate, accept, with-session, errorAfter, breach, judgeWhole, judgeScope, judge}
 use Rattle.protocol.specs.Call.{otherEnd, answering, headerTaken, messageTaken, reading, receiveGate, receiveRule}
 use Rattle.protocol.specs.Result.{bytesOfAll}
 use Rattle.protocol.specs.Observed.{received}
@@ -37,10 +37,10 @@ use Rattle.history.proofs.Written.{Sendable, nothing-read, only-own, on
 use Rattle.history.proofs.Steps.{formed-up, own-range, far-range}
 use Rattle.history.proofs.Lines.{header-no-message, whole-no-event, line-good}
 
--- a decision that takes something keeps what is observed
+-- a decision that takes something keeps what is observed, and a violation is answered with Error and counts as a lost line
 abbrev pub GoodBy : State → Call → Decision → Type 0
 GoodBy s k (refuse n) = Unit {0}
-GoodBy s k (violate b) = Unit {0}
+GoodBy s k (violate b) = (b .reply ≡ errorAfter (s .connection .stage) (s .connection .own)) × (b .cause ≡ line-lost)
 GoodBy s k (accept e) = Good (setupOf (s .connection)) s k e
 
 pub settled : {A : Type 0} (s : State) (k : Call) (f : A → Decision) (p : Plan A) → Takes (λ a. GoodBy s k (f a)) p → GoodBy s k (settle refuse f p)
@@ -52,8 +52,8 @@ settled s k f (take a) h = h
 
 judged : {A : Type 0} (s : State) (k : Call) (f : A → Decision) (p : Plan A) → Takes (λ a. GoodBy s k (f a)) p → GoodBy s k (settle (breach (s .connection)) f p)
 unfolding settle
-judged s k f (stop n) h = tt
-judged s k f (check true n p) h = tt
+judged s k f (stop n) h = (refl, refl)
+judged s k f (check true n p) h = (refl, refl)
 judged s k f (check false n p) h = judged s k f p (h refl)
 judged s k f (take a) h = h
 
@@ -99,7 +99,7 @@ module _ (s : State) (o : Ok (setupOf (s .connection)) s) (input room : List ℕ
       (λ n. subst (λ (z : Role). writtenMessage n (readMessage z (bytesOfAll [] (answering r (s .connection .own)))) ≡ []) (sym er) (answers r n))
       (ap (λ (z : Role). record { over = s .connection .over; stage = stage.Up z far; ping = s .connection .ping }) er)
   header-good r er up (refused n) q = tt
-  header-good r er up (violation n) q = tt
+  header-good r er up (violation n) q = (refl, refl)
 
   -- ---- a message
 
@@ -128,10 +128,11 @@ module _ (s : State) (o : Ok (setupOf (s .connection)) s) (input room : List ℕ
   whole-good (msg.Data b c f a i n) up w = tt
 
   session-message : (m : Message) (i : ℕ) (sm : SessionMessage) → scope m ≡ of-session i sm → exchanged (s .connection .stage) ≡ true → i < 128
-      → (t : Taken) → Sound (roleOf (s .connection .stage)) (ownStart (s .connection)) (farStart (s .connection)) (at (s .connection) i) (slot i (s .queue)) (received sm (t .late) ∷ []) [] (slot i (s .queue)) t
-      → ForSession (setupOf (s .connection)) s (receive input room) i (s .connection .last) (message m (t .late)) (received sm (t .late) ∷ []) t
+      → (t : Taken) → Sound (roleOf (s .connection .stage)) (ownStart (s .connection)) (farStart (s .connection)) (at (s .connection) i) (slot i (s .queue)) (received sm (t .late) ∷ []) [] (slot i (s .queue)) false t
+      → ForSession (setupOf (s .connection)) s (receive input room) i (s .connection .last) (message m (t .late)) (received sm (t .late) ∷ []) false t
   session-message m i sm e up hi t snd =
       record {
+        mark = refl;
         inside = hi;
         last-inside = o .last;
         up = up;
@@ -150,7 +151,7 @@ module _ (s : State) (o : Ok (setupOf (s .connection)) s) (input room : List ℕ
       judged s (receive input room) (λ t. accept (with-session (s .connection) i (s .connection .last) (message m (t .late)) t))
       (receipt (roleOf (s .connection .stage)) (ownStart (s .connection)) (farStart (s .connection)) (at (s .connection) i) sm)
       (takes-map
-      (λ t snd. session-good (setupOf (s .connection)) s (receive input room) i (s .connection .last) (message m (t .late)) (received sm (t .late) ∷ []) t o
+      (λ t snd. session-good (setupOf (s .connection)) s (receive input room) i (s .connection .last) (message m (t .late)) (received sm (t .late) ∷ []) false t o
       (session-message m i sm e up hi t snd))
       (receipt (roleOf (s .connection .stage)) (ownStart (s .connection)) (farStart (s .connection)) (at (s .connection) i) sm)
       (receipt-sound (roleOf (s .connection .stage)) (ownStart (s .connection)) (farStart (s .connection)) (at (s .connection) i) (slot i (s .queue))
@@ -161,7 +162,7 @@ module _ (s : State) (o : Ok (setupOf (s .connection)) s) (input room : List ℕ
   unfolding judge
   message-good (ok m) q up = judge-good m (scope m) refl up (message-sent (otherEnd (roleOf (s .connection .stage))) input m q)
   message-good (refused n) q up = tt
-  message-good (violation n) q up = tt
+  message-good (violation n) q up = (refl, refl)
 
   reading-good : (st : Stage) → s .connection .stage ≡ st → GoodBy s (receive input room) (reading (s .connection) input st)
   reading-good (stage.Fresh r) e = header-good r (ap roleOf e) (ap exchanged e) (readConnectionHeader input) refl

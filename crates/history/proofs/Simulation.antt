@@ -49,7 +49,7 @@ decide-good s o lost = settled s lost accept _ (lost-good s o)
 decide-good s o (receive input room) = receive-good s o input room
 
 -- a call that is not taken leaves the queue
-queue-refused : (c : Connection) (q : List ℕ) (k : Call) (n : ℕ) → queueAfter c q k (refuse n) ≡ q
+pub queue-refused : (c : Connection) (q : List ℕ) (k : Call) (n : ℕ) → queueAfter c q k (refuse n) ≡ q
 queue-refused c q (start room) n = refl
 queue-refused c q (open-session i) n = refl
 queue-refused c q (put i bytes) n = refl
@@ -63,7 +63,7 @@ queue-refused c q (shutdown room) n = refl
 queue-refused c q lost n = refl
 queue-refused c q (receive input room) n = refl
 
-queue-violated : (c : Connection) (q : List ℕ) (k : Call) (b : Breach) → queueAfter c q k (violate b) ≡ q
+pub queue-violated : (c : Connection) (q : List ℕ) (k : Call) (b : Breach) → queueAfter c q k (violate b) ≡ q
 queue-violated c q (start room) b = refl
 queue-violated c q (open-session i) b = refl
 queue-violated c q (put i bytes) b = refl
@@ -116,7 +116,7 @@ pub account-path : {a b : Account} → a .line ≡ b .line → a .seen ≡ b .se
 account-path p q i = record { line = p i; seen = q i }
 
 -- the connection after an effect, before it may end
-abbrev base : Connection → Effect → Connection
+abbrev pub base : Connection → Effect → Connection
 base c e = record { sessions = set (c .sessions) (e .number) (e .session); stage = e .stage; over = c .over; own = c .own; last = e .last; ping = e .ping }
 
 ended-ok : {setup : Setup} (s : State) → Ok setup s → (cause : Cause) → Ok setup (record { connection = ended cause (s .connection); queue = s .queue })
@@ -136,7 +136,7 @@ ended-ok {setup} s o cause =
           (sym (ap (λ (x : Session). x .waiting) (ended-at cause (s .connection) n) ∙ ending-waiting cause (at (s .connection) n))) (o .fits n h);
     }
 
-ended-holds : (s : State) (cause : Cause) (n : ℕ) → holds (record { connection = ended cause (s .connection); queue = s .queue }) n ≡ holds s n
+pub ended-holds : (s : State) (cause : Cause) (n : ℕ) → holds (record { connection = ended cause (s .connection); queue = s .queue }) n ≡ holds s n
 ended-holds s cause n =
     ap (λ (x : Session). look (farStart (s .connection)) x (slot n (s .queue))) (ended-at cause (s .connection) n)
     ∙ ending-look cause (farStart (s .connection)) (at (s .connection) n) (slot n (s .queue))
@@ -144,20 +144,20 @@ ended-holds s cause n =
 -- ---- a call that is taken
 
 module _ (s : State) (o : Ok (setupOf (s .connection)) s) (k : Call) (e : Effect) (g : Good (setupOf (s .connection)) s k e) where
-  q′ : List ℕ
+  pub q′ : List ℕ
   q′ = queueAfter (s .connection) (s .queue) k (accept e)
 
-  taken : State
+  pub taken : State
   taken = record { connection = base (s .connection) e; queue = q′ }
 
-  own-at : at (base (s .connection) e) (e .number) ≡ e .session
+  pub own-at : at (base (s .connection) e) (e .number) ≡ e .session
   own-at = getD-set-same (s .connection .sessions) (e .number) (e .session) blank (let h = g .inside in let z = o .size in omega arith)
 
   other-at : (n : ℕ) → (e .number ≡ n → ⊥) → at (base (s .connection) e) n ≡ at (s .connection) n
   other-at n d = getD-set-other (s .connection .sessions) (e .number) n (e .session) blank (λ z. d (sym z))
 
   -- by cases: the number that the call concerns, or another
-  by-number : (P : ℕ → Type 0) → P (e .number) → ((n : ℕ) → n < 128 → (e .number ≡ n → ⊥) → P n) → (n : ℕ) → n < 128 → P n
+  pub by-number : (P : ℕ → Type 0) → P (e .number) → ((n : ℕ) → n < 128 → (e .number ≡ n → ⊥) → P n) → (n : ℕ) → n < 128 → P n
   by-number P own other n h = go (eqb (e .number) n) refl
     where
       go : (b : Bool) → eqb (e .number) n ≡ b → P n
@@ -184,7 +184,7 @@ module _ (s : State) (o : Ok (setupOf (s .connection)) s) (k : Call) (e : Effect
             (λ n h d. rw (other-at n d, g .frame n h d) (o .fits n h));
       }
 
-  taken-holds : (n : ℕ) → n < 128
+  pub taken-holds : (n : ℕ) → n < 128
       → holds taken n ≡ fold (observe (ownOf (setupOf (s .connection))) (farStart (s .connection))) (holds s n) (events (roleOf (s .connection .stage)) n (outBy s k (accept e)))
   unfolding taken q′ fold
   taken-holds =
@@ -200,7 +200,7 @@ module _ (s : State) (o : Ok (setupOf (s .connection)) s) (k : Call) (e : Effect
   accepted-ok goes-on = taken-ok
   accepted-ok (ends cause) = ended-ok taken taken-ok cause
 
-  accepted-holds : (en : Ending) (n : ℕ) → holds (record { connection = continued en (base (s .connection) e); queue = queueAfter (s .connection) (s .queue) k (accept e) }) n ≡ holds taken n
+  pub accepted-holds : (en : Ending) (n : ℕ) → holds (record { connection = continued en (base (s .connection) e); queue = queueAfter (s .connection) (s .queue) k (accept e) }) n ≡ holds taken n
   unfolding taken q′
   accepted-holds goes-on n = refl
   accepted-holds (ends cause) n = ended-holds taken cause n
@@ -228,10 +228,10 @@ module _ (s : State) (o : Ok (setupOf (s .connection)) s) (k : Call) where
 -- ---- one call
 
 module _ (setup : Setup) where
-  same-setup : (s : State) → Ok setup s → setupOf (s .connection) ≡ setup
+  pub same-setup : (s : State) → Ok setup s → setupOf (s .connection) ≡ setup
   same-setup s o i = record { role = o .role i; header = o .own i }
 
-  own-ok : (s : State) → Ok setup s → Ok (setupOf (s .connection)) s
+  pub own-ok : (s : State) → Ok setup s → Ok (setupOf (s .connection)) s
   own-ok s o = subst (λ (z : Setup). Ok z s) (sym (same-setup s o)) o
 
   pub next-ok : (s : State) (k : Call) → Ok setup s → Ok setup (next s k)

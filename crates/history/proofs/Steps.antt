@@ -45,13 +45,13 @@ module _ (s : State) (o : Ok (setupOf (s .connection)) s) where
 
   -- a call about one session that leaves the queue alone and writes no Data
   quiet-good : (k : Call) (n : ℕ) (h : List Event) (p : Plan Taken) → n < 128 → not (exchanged (s .connection .stage)) ≡ false
-      → ((t : Taken) → Sound (roleOf (s .connection .stage)) (ownStart (s .connection)) (farStart (s .connection)) (at (s .connection) n) (slot n (s .queue)) h [] (slot n (s .queue)) t
-      → ForSession (setupOf (s .connection)) s k n (s .connection .last) done h t)
-      → Takes (Sound (roleOf (s .connection .stage)) (ownStart (s .connection)) (farStart (s .connection)) (at (s .connection) n) (slot n (s .queue)) h [] (slot n (s .queue))) p
+      → ((t : Taken) → Sound (roleOf (s .connection .stage)) (ownStart (s .connection)) (farStart (s .connection)) (at (s .connection) n) (slot n (s .queue)) h [] (slot n (s .queue)) false t
+      → ForSession (setupOf (s .connection)) s k n (s .connection .last) done h false t)
+      → Takes (Sound (roleOf (s .connection .stage)) (ownStart (s .connection)) (farStart (s .connection)) (at (s .connection) n) (slot n (s .queue)) h [] (slot n (s .queue)) false) p
       → Takes (Good (setupOf (s .connection)) s k) (andThen (with-session (s .connection) n (s .connection .last) done) p)
   quiet-good k n h p hn up f g =
       takes-then (Good (setupOf (s .connection)) s k) (with-session (s .connection) n (s .connection .last) done) p
-      (takes-map (λ t snd. session-good (setupOf (s .connection)) s k n (s .connection .last) done h t o (f t snd)) p g)
+      (takes-map (λ t snd. session-good (setupOf (s .connection)) s k n (s .connection .last) done h false t o (f t snd)) p g)
 
   pub open-good : (n : ℕ) → Takes (Good (setupOf (s .connection)) s (open-session n)) (openRule (s .connection) n)
   unfolding openRule
@@ -60,6 +60,7 @@ module _ (s : State) (o : Ok (setupOf (s .connection)) s) where
       let hu = not-false (exchanged (s .connection .stage)) up in
       quiet-good (open-session n) n (opens ∷ []) (openAsk (roleOf (s .connection .stage)) (at (s .connection) n)) hn up
       (λ t snd. record {
+        mark = refl;
         inside = hn;
         last-inside = o .last;
         up = hu;
@@ -78,6 +79,7 @@ module _ (s : State) (o : Ok (setupOf (s .connection)) s) where
       let hu = not-false (exchanged (s .connection .stage)) up in
       quiet-good (finish n) n (finishes ∷ []) (finishAsk (at (s .connection) n)) hn up
       (λ t snd. record {
+        mark = refl;
         inside = hn;
         last-inside = o .last;
         up = hu;
@@ -96,6 +98,7 @@ module _ (s : State) (o : Ok (setupOf (s .connection)) s) where
       let hu = not-false (exchanged (s .connection .stage)) up in
       quiet-good (grant n amount room) n [] (grantAsk (at (s .connection) n) amount) hn up
       (λ t snd. record {
+        mark = refl;
         inside = hn;
         last-inside = o .last;
         up = hu;
@@ -115,6 +118,7 @@ module _ (s : State) (o : Ok (setupOf (s .connection)) s) where
       let hu = not-false (exchanged (s .connection .stage)) up in
       quiet-good (abort n partial room) n (aborts ∷ []) (abortAsk (roleOf (s .connection .stage)) (at (s .connection) n) partial) hn up
       (λ t snd. record {
+        mark = refl;
         inside = hn;
         last-inside = o .last;
         up = hu;
@@ -133,6 +137,7 @@ module _ (s : State) (o : Ok (setupOf (s .connection)) s) where
       let hu = not-false (exchanged (s .connection .stage)) up in
       quiet-good (close n room) n [] (closeAsk (roleOf (s .connection .stage)) (at (s .connection) n)) hn up
       (λ t snd. record {
+        mark = refl;
         inside = hn;
         last-inside = o .last;
         up = hu;

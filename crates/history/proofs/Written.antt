@@ -92,6 +92,9 @@ pub written-other : (n i : ℕ) (m : SessionMessage) → (i ≡ n → ⊥) → w
 written-other n i m d = ap (inScope n wrote) (scope-numbered i m) ∙ only-other n i (wrote m) d
 
 -- nothing written is no message
-pub nothing-read : (r : Role) (payload : List ℕ) (n : ℕ) → writtenMessage n (readMessage r (bytesOfAll payload [])) ≡ []
+pub nothing-refused : (r : Role) (payload : List ℕ) → readMessage r (bytesOfAll payload []) ≡ refused 10
 unfolding bytesOfAll readMessage pick
-nothing-read r payload n = refl
+nothing-refused r payload = refl
+
+pub nothing-read : (r : Role) (payload : List ℕ) (n : ℕ) → writtenMessage n (readMessage r (bytesOfAll payload [])) ≡ []
+nothing-read r payload n = ap (writtenMessage n) (nothing-refused r payload)

@@ -1,3 +1,4 @@
 -- Logs of calls, what they tell, and what is claimed of every one of them.
 pub mod Log
 pub mod Account
+pub mod Claims

@@ -55,7 +55,7 @@ finish-sends far (sides.Live side.Finished t) w r f = refl
 finish-sends far (sides.Live side.Ended t) w r f = refl
 
 pub finish-sound : (r : Role) (own far : Ration) (x : Session) (s : List ℕ) → Formed r true x
-    → Takes (Sound r own far x s (finishes ∷ []) [] s) (finishAsk x)
+    → Takes (Sound r own far x s (finishes ∷ []) [] s false) (finishAsk x)
 unfolding finishAsk fold
 finish-sound r own far x s f side =
     let e = finish-sends far (x .sides) (take (x .waiting) s) (x .outbound) (x .finish) in
@@ -71,6 +71,7 @@ finish-sound r own far x s f side =
             place = f .place;
           };
       lasts = λ h _ _. ap isReady e ∙ finish-ready (sendsOf far (x .sides) (take (x .waiting) s) (x .outbound) (x .finish)) h;
+      sends-data = refl;
       room = λ h. h;
       lawful = tt;
     }
@@ -102,7 +103,7 @@ put-sends far (sides.Live side.Finished t) w w′ bytes r f e = refl
 put-sends far (sides.Live side.Ended t) w w′ bytes r f e = refl
 
 pub put-sound : (r : Role) (own far : Ration) (x : Session) (s bytes : List ℕ) → Formed r true x → x .waiting ≤ length s
-    → Takes (Sound r own far x s (puts bytes ∷ []) [] (putSlot (x .waiting) bytes s)) (putAsk x (length bytes))
+    → Takes (Sound r own far x s (puts bytes ∷ []) [] (putSlot (x .waiting) bytes s) false) (putAsk x (length bytes))
 unfolding putAsk fold
 put-sound r own far x s bytes f long side room =
     let w = take (x .waiting) s in
@@ -124,6 +125,7 @@ put-sound r own far x s bytes f long side room =
       lasts =
           λ h _ _. ap isReady e
           ∙ put-ready far (x .sides) w (x .outbound) (x .finish) bytes (or-second (not (sends (x .sides))) (x .finish) side) h;
+      sends-data = refl;
       room = λ h. put-room (x .waiting) bytes s h (omega arith);
       lawful = tt;
     }
@@ -135,11 +137,11 @@ server-client role.Client e = refl
 server-client role.Server e = absurd (true≢false e)
 
 pub open-sound : (r : Role) (own far : Ration) (x : Session) (s : List ℕ) → Formed r true x
-    → Takes (Sound r own far x s (opens ∷ []) [] s) (openAsk r x)
+    → Takes (Sound r own far x s (opens ∷ []) [] s false) (openAsk r x)
 unfolding openAsk fold
 open-sound r own far x s f client = go (x .sides) refl
   where
-    starts : (b : Before) → endsOf (sides.Opening b) ≡ endsOf (x .sides) → Sound r own far x s (opens ∷ []) [] s (record { session = opened b x; sent = []; late = false })
+    starts : (b : Before) → endsOf (sides.Opening b) ≡ endsOf (x .sides) → Sound r own far x s (opens ∷ []) [] s false (record { session = opened b x; sent = []; late = false })
     starts b e =
         record {
           seen = seen-path e refl refl;
@@ -153,11 +155,12 @@ open-sound r own far x s f client = go (x .sides) refl
                 place = and-both (server-client r client) refl;
               };
           lasts = λ _ _ _. refl;
+          sends-data = refl;
           room = λ _. omega arith;
           lawful = tt;
         }
 
-    go : (z : Sides) → x .sides ≡ z → Takes (Sound r own far x s (opens ∷ []) [] s) (openOf x z)
+    go : (z : Sides) → x .sides ≡ z → Takes (Sound r own far x s (opens ∷ []) [] s false) (openOf x z)
     go sides.Idle e = starts before.Idle (sym (ap endsOf e))
     go (sides.Opening b) e = tt
     go (sides.Live side.Open t) e = tt
@@ -175,7 +178,7 @@ grantable-range (ration.Finite left) n e = e
 grantable-range ration.Endless n e = refl
 
 pub grant-sound : (r : Role) (own far : Ration) (x : Session) (s : List ℕ) (n : ℕ) → Formed r true x
-    → Takes (Sound r own far x s [] [] s) (grantAsk x n)
+    → Takes (Sound r own far x s [] [] s false) (grantAsk x n)
 unfolding grantAsk fold
 grant-sound r own far x s n f standing amount sum =
     let range = grantable-range (x .inbound) n (not-false (grantable (x .inbound) n) sum) in
@@ -184,6 +187,7 @@ grant-sound r own far x s n f standing amount sum =
       seen = refl;
       formed = record { outbound = f .outbound; inbound = range; waiting = f .waiting; none = f .none; finish = f .finish; place = f .place };
       lasts = λ h _ _. h;
+      sends-data = refl;
       room = λ h. h;
       lawful = record { now = go (x .sides) (not-false (mayGrant (x .sides)) standing) range; ours = refl; fits = omega arith; body = omega arith };
     }
@@ -225,7 +229,7 @@ ended-formed t y f z o i w n =
     }
 
 pub abort-sound : (r : Role) (own far : Ration) (x : Session) (s : List ℕ) (partial : Bool) → Formed r true x
-    → Takes (Sound r own far x s (aborts ∷ []) [] s) (abortAsk r x partial)
+    → Takes (Sound r own far x s (aborts ∷ []) [] s false) (abortAsk r x partial)
 unfolding abortAsk fold
 abort-sound r own far x s partial f role = go (x .sides) refl
   where
@@ -233,12 +237,13 @@ abort-sound r own far x s partial f role = go (x .sides) refl
     lapsed e = absurd (true≢false e)
 
     dropping : (o t : Side) → x .sides ≡ sides.Live o t → established o ≡ true
-        → Takes (Sound r own far x s (aborts ∷ []) [] s) (aborting partial t x)
+        → Takes (Sound r own far x s (aborts ∷ []) [] s false) (aborting partial t x)
     dropping o t e h =
         record {
           seen = seen-path (sym (ap (λ (z : Sides). ours side.Ended (endsOf z)) e)) refl refl;
           formed = ended-formed t _ f refl refl refl refl refl;
           lasts = λ _ q _. lapsed q;
+          sends-data = refl;
           room = λ _. omega arith;
           lawful =
               record {
@@ -250,12 +255,13 @@ abort-sound r own far x s partial f role = go (x .sides) refl
         }
 
     restoring : (b : Before) → x .sides ≡ sides.Opening b
-        → Sound r own far x s (aborts ∷ []) [] s (record { session = dropped (sided (restored b) (settled outcome.MayRetry x)); sent = []; late = false })
+        → Sound r own far x s (aborts ∷ []) [] s false (record { session = dropped (sided (restored b) (settled outcome.MayRetry x)); sent = []; late = false })
     restoring before.Idle e =
         record {
           seen = seen-path (sym (ap endsOf e)) refl refl;
           formed = record { outbound = f .outbound; inbound = f .inbound; waiting = omega arith; none = refl; finish = refl; place = refl };
           lasts = λ _ q _. lapsed q;
+          sends-data = refl;
           room = λ _. omega arith;
           lawful = tt;
         }
@@ -264,6 +270,7 @@ abort-sound r own far x s partial f role = go (x .sides) refl
           seen = seen-path (sym (ap endsOf e)) refl refl;
           formed = record { outbound = f .outbound; inbound = f .inbound; waiting = omega arith; none = refl; finish = refl; place = refl };
           lasts = λ _ q _. lapsed q;
+          sends-data = refl;
           room = λ _. omega arith;
           lawful = tt;
         }
@@ -272,11 +279,12 @@ abort-sound r own far x s partial f role = go (x .sides) refl
           seen = seen-path (sym (ap endsOf e)) refl refl;
           formed = record { outbound = f .outbound; inbound = f .inbound; waiting = omega arith; none = refl; finish = refl; place = refl };
           lasts = λ _ q _. lapsed q;
+          sends-data = refl;
           room = λ _. omega arith;
           lawful = tt;
         }
 
-    go : (z : Sides) → x .sides ≡ z → Takes (Sound r own far x s (aborts ∷ []) [] s) (abortOf x partial z)
+    go : (z : Sides) → x .sides ≡ z → Takes (Sound r own far x s (aborts ∷ []) [] s false) (abortOf x partial z)
     go sides.Idle e = tt
     go (sides.Opening b) e = restoring b e
     go (sides.Live side.Open t) e = dropping side.Open t e refl
@@ -288,11 +296,11 @@ abort-sound r own far x s partial f role = go (x .sides) refl
 -- ---- close
 
 pub close-sound : (r : Role) (own far : Ration) (x : Session) (s : List ℕ) → Formed r true x
-    → Takes (Sound r own far x s [] [] s) (closeAsk r x)
+    → Takes (Sound r own far x s [] [] s false) (closeAsk r x)
 unfolding closeAsk fold
 close-sound r own far x s f role = go (x .sides) refl
   where
-    go : (z : Sides) → x .sides ≡ z → Takes (Sound r own far x s [] [] s) (closeOf x z)
+    go : (z : Sides) → x .sides ≡ z → Takes (Sound r own far x s [] [] s false) (closeOf x z)
     go sides.Idle e = tt
     go (sides.Opening b) e = tt
     go (sides.Live side.Open t) e = tt
@@ -311,6 +319,7 @@ close-sound r own far x s f role = go (x .sides) refl
                 place = refl;
               };
           lasts = λ h _ _. absurd (false≢true (rw e at h));
+          sends-data = refl;
           room = λ h. h;
           lawful =
               record {

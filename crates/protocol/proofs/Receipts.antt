@@ -77,7 +77,7 @@ increment-ready (sending false (b ∷ w) r f) n h = flat (positive (plus r n)) (
 module _ (r : Role) (own far : Ration) (x : Session) (s : List ℕ) (f : Formed r true x) where
   -- what is taken when the message m comes
   abbrev At : SessionMessage → Taken → Type 0
-  At m t = Sound r own far x s (received m (t .late) ∷ []) [] s t
+  At m t = Sound r own far x s (received m (t .late) ∷ []) [] s false t
 
   -- our side stays, theirs moves
   module _ (o t t′ : Side) (e : x .sides ≡ sides.Live o t) where
@@ -111,6 +111,7 @@ module _ (r : Role) (own far : Ration) (x : Session) (s : List ℕ) (f : Formed 
         seen = seen-path (sym (ap (ours side.Ended) st)) refl (sym ib);
         formed = record { outbound = ho; inbound = hi; waiting = omega arith; none = refl; finish = refl; place = refl };
         lasts = λ _ q _. absurd (true≢false (sym lapse ∙ or-first (lapses (received m false)) false q));
+        sends-data = refl;
         room = λ _. omega arith;
         lawful =
             record {
@@ -135,6 +136,7 @@ module _ (r : Role) (own far : Ration) (x : Session) (s : List ℕ) (f : Formed 
         seen = seen-path st view ib;
         formed = kept-formed o side.Open (afterData close eof) e y z (ap inRange ob ∙ f .outbound) hi w fi;
         lasts = λ h _ _. ap isReady view ∙ h;
+        sends-data = refl;
         room = λ h. rw w h;
         lawful = tt;
       }
@@ -165,6 +167,7 @@ module _ (r : Role) (own far : Ration) (x : Session) (s : List ℕ) (f : Formed 
         seen = seen-path (ap endsOf z ∙ kept-standing o t t′ e ∙ st) (view ∙ se) (ib ∙ bo);
         formed = kept-formed o t t′ e y z (ap inRange ob ∙ f .outbound) (ap inRange ib ∙ f .inbound) w fi;
         lasts = λ h _ _. ap isReady view ∙ h;
+        sends-data = refl;
         room = λ h. rw w h;
         lawful = tt;
       }
@@ -181,6 +184,7 @@ module _ (r : Role) (own far : Ration) (x : Session) (s : List ℕ) (f : Formed 
         seen = seen-path (sym (ap endsOf e)) view refl;
         formed = kept-formed side.Open t t e _ refl (not-false (inRange (plus (x .outbound) n)) range) (f .inbound) refl refl;
         lasts = λ h _ _. ap isReady view ∙ increment-ready (look far x s .sends) n h;
+        sends-data = refl;
         room = λ h. h;
         lawful = tt;
       }
@@ -245,6 +249,7 @@ module _ (r : Role) (own far : Ration) (x : Session) (s : List ℕ) (f : Formed 
         seen = refl;
         formed = record { outbound = hf; inbound = minus-in-range own n ho; waiting = omega arith; none = refl; finish = refl; place = refl };
         lasts = λ h _ _. absurd (false≢true (sym (idle (x .sides) ok) ∙ h));
+        sends-data = refl;
         room = λ _. omega arith;
         lawful = tt;
       }

@@ -11,7 +11,7 @@ use Rattle.protocol.specs.declared.Session.{Session}
 use Rattle.protocol.specs.Slot.{slotSize}
 use Rattle.protocol.specs.Message.{SessionMessage, data-of, increment-of, abort-of, close-of, acknowledgment-of}
 use Rattle.protocol.specs.Receipt.{Taken}
-use Rattle.protocol.specs.Observed.{Event, wrote, isReady, lapses, observe, mayWrite, fromRole}
+use Rattle.protocol.specs.Observed.{Event, wrote, isReady, anyLapse, observe, mayWrite, fromRole}
 use Rattle.protocol.proofs.Views.{look, Formed}
 
 -- the messages written, as events
@@ -29,10 +29,6 @@ isData acknowledgment-of = false
 abbrev pub anyData : List SessionMessage → Bool
 anyData [] = false
 anyData (m ∷ ms) = isData m || anyData ms
-
-abbrev pub anyLapse : List Event → Bool
-anyLapse [] = false
-anyLapse (e ∷ es) = lapses e || anyLapse es
 
 -- the numbers that a message carries fit: the length a slot, an increment its 16 bits
 abbrev pub Fits : SessionMessage → Type 0
@@ -64,11 +60,13 @@ AllLawful r own far x s h payload [] = Unit {0}
 AllLawful r own far x s h payload (m ∷ []) = Lawful r own far x s h payload m
 AllLawful r own far x s h payload (m ∷ k ∷ ms) = ⊥
 
--- what is taken for the session x with slot s, told by the events h and what is written; s′ is the slot afterwards
-pub record Sound (r : Role) (own far : Ration) (x : Session) (s : List ℕ) (h : List Event) (payload s′ : List ℕ) (t : Taken) : Type 0 where
+-- what is taken for the session x with slot s, told by the events h and what is written; s′ is the slot afterwards, and
+-- `d` says whether a Data message is written
+pub record Sound (r : Role) (own far : Ration) (x : Session) (s : List ℕ) (h : List Event) (payload s′ : List ℕ) (d : Bool) (t : Taken) : Type 0 where
   pub seen : look far (t .session) s′ ≡ fold (observe own far) (look far x s) (h ++ writes (t .sent))
   pub formed : Formed r true (t .session)
   pub lasts : isReady (look far x s .sends) ≡ true → anyLapse h ≡ false → anyData (t .sent) ≡ false
       → isReady (look far (t .session) s′ .sends) ≡ true
+  pub sends-data : anyData (t .sent) ≡ d
   pub room : x .waiting ≤ length s → t .session .waiting ≤ length s′
   pub lawful : AllLawful r own far x s h payload (t .sent)

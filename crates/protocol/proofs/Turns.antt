@@ -98,7 +98,7 @@ only-if-true true b e = e
 only-if-true false b e = refl
 
 pub turn-sound : (r : Role) (own far : Ration) (x : Session) (s : List ℕ) → Formed r true x → inRange own ≡ true → inRange far ≡ true → x .waiting ≤ length s
-    → Takes (λ t. Sound r own far x s [] s (turnSlot (x .waiting) (x .waiting - t .session .waiting) s) t) (turnAsk own far x)
+    → Takes (λ t. Sound r own far x s [] s (turnSlot (x .waiting) (x .waiting - t .session .waiting) s) true t) (turnAsk own far x)
 unfolding turnAsk fold
 turn-sound r own far x s f ho hf long = go (x .sides) refl
   where
@@ -106,7 +106,7 @@ turn-sound r own far x s f ho hf long = go (x .sides) refl
     stays n h = let e : x .waiting - (x .waiting - n) ≡ n = omega arith in
         ap (λ (k : ℕ). take (x .waiting - n) (turnSlot (x .waiting) k s)) e ∙ turn-slot (x .waiting) n s long h
 
-    go : (z : Sides) → x .sides ≡ z → Takes (λ t. Sound r own far x s [] s (turnSlot (x .waiting) (x .waiting - t .session .waiting) s) t) (turnOf own far x z)
+    go : (z : Sides) → x .sides ≡ z → Takes (λ t. Sound r own far x s [] s (turnSlot (x .waiting) (x .waiting - t .session .waiting) s) true t) (turnOf own far x z)
     go sides.Idle e = tt
     go (sides.Opening b) e =
         let n = smaller (x .waiting) far in
@@ -128,6 +128,7 @@ turn-sound r own far x s f ho hf long = go (x .sides) refl
                 place = refl;
               };
           lasts = λ _ _ q. absurd (true≢false q);
+          sends-data = refl;
           room = λ _. let e = turn-length (x .waiting) (x .waiting - (x .waiting - n)) s small in omega arith;
           lawful =
               record {
@@ -156,6 +157,7 @@ turn-sound r own far x s f ho hf long = go (x .sides) refl
                 place = refl;
               };
           lasts = λ _ _ q. absurd (true≢false q);
+          sends-data = refl;
           room = λ _. let e = turn-length (x .waiting) (x .waiting - (x .waiting - n)) s small in omega arith;
           lawful =
               record {

@@ -92,6 +92,10 @@ lapses (received close-of late) = true
 lapses (received acknowledgment-of late) = false
 lapses (wrote m) = false
 
+abbrev pub anyLapse : List Event → Bool
+anyLapse [] = false
+anyLapse (e ∷ es) = lapses e || anyLapse es
+
 -- ---- where each end stands, in the words of 002
 
 -- the session that a number last named: established with respect to an end (open), also finished, or terminated (ended)

@@ -1,0 +1,115 @@
+-- What is claimed of every log: of every role, header number, queue and list of calls, refused ones included.
+use Prim.Native.Nat.{ℕ, suc, _+_, _-_, _≤_, _<_}
+use mathlib.Core.Path.{_≡_}
+use mathlib.Core.Logic.{_↔_}
+use mathlib.Core.Bool.{Bool, true, false, not, _&&_, _||_}
+use mathlib.Core.List.{List, [], _∷_, _++_}
+use lib.ListN.{length, take}
+use lib.Dec.{eqb}
+use Rattle.laws.specs.Result.{Result, ok, refused, violation}
+use Rattle.laws.specs.Circle.{nearest}
+use Rattle.laws.specs.Runs.{fold, Every, gather, times}
+use Rattle.wire.specs.declared.Message.{Message}
+use Rattle.wire.specs.declared.Message.the-variants as msg
+use Rattle.wire.specs.Message as wire
+use Rattle.wire.specs.Message.{readMessage}
+use Rattle.protocol.specs.declared.Setup.{Setup}
+use Rattle.protocol.specs.Slot.{queueSize, turnRoom}
+use Rattle.protocol.specs.Message.{numbered}
+use Rattle.protocol.specs.Connection.{exchanged}
+use Rattle.protocol.specs.Judge.{Report, served}
+use Rattle.protocol.specs.Observed.{Sending, silent, sending, isReady, anyLapse, dueData}
+use Rattle.history.specs.Log.{Call, turn, Entry}
+use Rattle.history.specs.Account.{Line, lineAfter, events, observed, blankAccount}
+
+-- ---- the words of the third demand
+
+-- a session number is ready, as the log so far tells it
+abbrev pub ready : Setup → ℕ → List Entry → Bool
+ready s n a = isReady (observed s n a .seen .sends)
+
+-- the session number of a Data message
+abbrev pub dataNumber : Result Message → List ℕ
+dataNumber (ok (msg.NoOperation n)) = []
+dataNumber (ok (msg.Shutdown n)) = []
+dataNumber (ok (msg.Ping k)) = []
+dataNumber (ok (msg.PingAck k)) = []
+dataNumber (ok (msg.Error n)) = []
+dataNumber (ok (msg.IncrementRation t i n)) = []
+dataNumber (ok (msg.Abort p i n)) = []
+dataNumber (ok (msg.Close i)) = []
+dataNumber (ok (msg.Acknowledgment i)) = []
+dataNumber (ok (msg.Data o c e a i n)) = i ∷ []
+dataNumber (refused n) = []
+dataNumber (violation n) = []
+
+-- the numbers whose data messages an entry wrote
+abbrev pub dataWritten : Setup → Entry → List ℕ
+dataWritten s e = dataNumber (readMessage (s .role) (e .wrote))
+
+abbrev pub has : ℕ → List ℕ → Bool
+has n [] = false
+has n (k ∷ ks) = eqb k n || has n ks
+
+-- the connection is over with this entry
+abbrev pub isOver : Setup → Entry → Bool
+isOver s e = lineAfter (blankAccount s .line) e .over
+
+-- a wait lapses: the number's abort is taken, an Abort, Close or close flag for it is taken, or the connection is over
+abbrev pub lapse : Setup → ℕ → Entry → Bool
+lapse s n e = anyLapse (events (s .role) n e) || isOver s e
+
+-- neither the number's own data message nor a lapse
+abbrev pub waitsOn : Setup → ℕ → Entry → Bool
+waitsOn s n e = not (has n (dataWritten s e)) && not (lapse s n e)
+
+-- the number whose data message was written last, 127 at first
+abbrev pub lastOf : ℕ → List ℕ → ℕ
+lastOf i [] = i
+lastOf i (k ∷ ks) = lastOf k ks
+
+abbrev pub lastServed : Setup → List Entry → ℕ
+lastServed s a = lastOf 127 (gather (dataWritten s) a)
+
+-- ---- nobody waits for ever
+
+-- n is ready after a; b follows, with neither its own data message nor a lapse in it
+pub record Waits (s : Setup) (n : ℕ) (a b : List Entry) : Type 0 where
+  pub still-ready : ready s n (a ++ b) ≡ true
+  pub each-once : (m : ℕ) → m < 128 → times m (gather (dataWritten s) b) ≤ 1
+  pub at-most-127 : length (gather (dataWritten s) b) ≤ 127
+
+abbrev pub waitingBytes : Sending → List ℕ
+waitingBytes silent = []
+waitingBytes (sending unsent bytes r finish) = bytes
+
+-- a turn that is not refused: the number served is the first ready one after the last one served; what is written is that
+-- session's data message and nothing else, with the first bytes waiting
+pub record Serves (s : Setup) (a : List Entry) (e : Entry) (k : ℕ) : Type 0 where
+  pub first-ready : k ≡ nearest (λ n. ready s n a) (lastServed s a)
+  pub is-ready : ready s k a ≡ true
+  pub message : e .wrote
+      ≡ wire.header (numbered k (dueData (observed s k a .seen .sends)))
+      ++ take (wire.bodyLength (numbered k (dueData (observed s k a .seen .sends)))) (waitingBytes (observed s k a .seen .sends))
+
+-- no number is ready and no earlier check refuses the turn
+pub record NothingReady (s : Setup) (queue : ℕ) (a : List Entry) (room : ℕ) : Type 0 where
+  pub not-over : observed s 0 a .line .over ≡ false
+  pub up : exchanged (observed s 0 a .line .stage) ≡ true
+  pub roomy : turnRoom ≤ room
+  pub whole-queue : queue ≡ queueSize
+  pub none : (n : ℕ) → n < 128 → ready s n a ≡ false
+
+pub record Turns (s : Setup) (queue : ℕ) (a : List Entry) (e : Entry) (room : ℕ) : Type 0 where
+  pub served-one : (r : Report) → e .answer ≡ ok r → (k : ℕ) × (r ≡ served k) × (dataWritten s e ≡ k ∷ []) × Serves s a e k
+  pub refused-9 : (e .answer ≡ refused 9) ↔ NothingReady s queue a room
+
+-- the third demand, of one log
+pub record BoundedWaiting (s : Setup) (queue : ℕ) (log : List Entry) : Type 0 where
+  pub waits : (a b c : List Entry) → log ≡ a ++ (b ++ c) → (n : ℕ) → n < 128 → ready s n a ≡ true → Every (waitsOn s n) b → Waits s n a b
+  -- its own is the 128th at the latest
+  pub own-by-128 : (a b c : List Entry) → log ≡ a ++ (b ++ c) → (n : ℕ) → n < 128 → ready s n a ≡ true → Every (λ e. not (lapse s n e)) b
+      → 128 ≤ length (gather (dataWritten s) b) → has n (gather (dataWritten s) b) ≡ true
+  pub turns : (a c : List Entry) (e : Entry) (room : List ℕ) → log ≡ a ++ (e ∷ c) → e .call ≡ turn room → Turns s queue a e (length room)
+  pub only-turns-write-data : (a c : List Entry) (e : Entry) → log ≡ a ++ (e ∷ c) → ((room : List ℕ) → e .call ≡ turn room → ⊥) → dataWritten s e ≡ []
+  pub never-14 : (a c : List Entry) (e : Entry) → log ≡ a ++ (e ∷ c) → e .answer ≡ refused 14 → ⊥
