@@ -1,18 +1,15 @@
 -- Nobody waits for ever: the engine serves the nearest ready number after its mark, so the round-robin law holds of its runs.
 use mathlib.Core.Path.{_≡_, refl, sym, ap, _∙_, subst}
-use mathlib.Core.Bool.{Bool, true, false, not, _&&_, _||_, true≢false, false≢true}
+use mathlib.Core.Bool.{Bool, true, false, not}
 use mathlib.Core.List.{List, [], _∷_, _++_}
 use Prim.Native.Nat.{ℕ, _≤_, _<_}
 use native.Mathlib.Omega.{arith}
 use lib.ListN.{length}
 use lib.Dec.{eqb}
-use borrow.Author.Tests.{eq-eqb}
 use Rattle.laws.specs.Pick.{pick}
-use Rattle.laws.specs.Circle.{gap}
-use Rattle.laws.specs.Runs.{run, logOf, fold, Every, gather, times}
-use Rattle.laws.specs.Result.{Result, ok, refused, violation}
+use Rattle.laws.specs.Runs.{run, logOf, fold, Every, gather}
 use Rattle.laws.proofs.Circle.{gap-le}
-use Rattle.laws.proofs.Runs.{Move, still, serves, Waited, Scheduler, ok-run, stays-run, waited, run-append, log-append, log-split}
+use Rattle.laws.proofs.Runs.{Move, still, Scheduler, stays-run, waited, run-append, log-append, log-split}
 use Rattle.laws.proofs.Tests.{and-first, and-second, and-both, not-true, or-first, or-second, true-false}
 use Rattle.wire.specs.declared.Role.{Role}
 use Rattle.wire.specs.FirstByte.{kindOf}
@@ -22,25 +19,25 @@ use Rattle.protocol.specs.declared.Stage.the-variants as stage
 use Rattle.protocol.specs.declared.Setup.{Setup}
 use Rattle.protocol.specs.Queue.{slot}
 use Rattle.protocol.specs.Connection.{at, farStart, ended}
-use Rattle.protocol.specs.Judge.{Out, Ending, goes-on, ends, Effect, Breach, Decision, refuse, violate, accept, continued, errorAfter}
+use Rattle.protocol.specs.Judge.{Out, Ending, goes-on, ends, Effect, Decision, refuse, violate, accept, continued, errorAfter}
 use Rattle.protocol.specs.Result.{bytesOfAll}
-use Rattle.protocol.specs.Observed.{Event, isReady, anyLapse, Seen, observe}
+use Rattle.protocol.specs.Observed.{isReady, anyLapse, Seen, observe}
 use Rattle.protocol.proofs.Views.{look}
-use Rattle.history.specs.Log.{Call, State, Entry, decide, payloadOf, queueAfter, nextBy, outBy, next, out, made}
+use Rattle.history.specs.Log.{Call, State, Entry, decide, payloadOf, nextBy, outBy, next, out, made}
 use Rattle.history.specs.Log as log
-use Rattle.history.specs.Account.{Account, events, observed}
+use Rattle.history.specs.Account.{Account, events}
 use Rattle.history.specs.Claims.{ready, dataNumber, dataWritten, has, isOver, lapse, waitsOn, Waits}
-use Rattle.history.proofs.Good.{Ok, Good, setupOf, ownOf, holds, readyAt, own-has}
+use Rattle.history.proofs.Good.{Ok, setupOf, ownOf, holds, readyAt, own-has}
 use Rattle.history.proofs.Receives.{GoodBy}
-use Rattle.history.proofs.Simulation.{decide-good, base, queue-refused, queue-violated, ended-holds, taken, taken-holds, accepted-holds, by-number, accountOf, same-setup, own-ok, next-ok, observed-is, run-made, made-ok}
+use Rattle.history.proofs.Simulation.{decide-good, base, queue-refused, queue-violated, ended-holds, taken, taken-holds, accepted-holds, by-number, same-setup, own-ok, next-ok, observed-is, run-made}
 
 -- ---- what is written by a call that is not taken
 
-nothing-data : (r : Role) → dataNumber (readMessage r []) ≡ []
+pub nothing-data : (r : Role) → dataNumber (readMessage r []) ≡ []
 unfolding readMessage pick
 nothing-data r = refl
 
-error-data : (r : Role) (payload : List ℕ) (st : Stage) (own : ℕ) → dataNumber (readMessage r (bytesOfAll payload (errorAfter st own))) ≡ []
+pub error-data : (r : Role) (payload : List ℕ) (st : Stage) (own : ℕ) → dataNumber (readMessage r (bytesOfAll payload (errorAfter st own))) ≡ []
 unfolding bytesOfAll readMessage parseHeader typed allowed kindOf pick
 error-data r payload (stage.Fresh q) own = refl
 error-data r payload stage.Started own = refl
@@ -100,7 +97,7 @@ quiet-other : (s : Setup) (e : Entry) (n : ℕ) → waitsOn s n e ≡ true → d
 quiet-other s e n q p = true-false (own-has n) (sym (ap (has n) p) ∙ quiet-data s n e q)
 
 module _ (setup : Setup) where
-  scheduler : Scheduler next out (dataWritten setup) (waitsOn setup) (Ok setup) (λ s. s .connection .last) readyAt
+  pub scheduler : Scheduler next out (dataWritten setup) (waitsOn setup) (Ok setup) (λ s. s .connection .last) readyAt
   unfolding next out
   scheduler =
       record {
@@ -118,7 +115,7 @@ module _ (setup : Setup) where
 -- ---- waits, of a log
 
 module _ (setup : Setup) (hh : setup .header < 65_536) (queue : List ℕ) where
-  ready-is : (ks : List Call) (n : ℕ) → n < 128 → ready setup n (log.log setup queue ks) ≡ readyAt (log.run setup queue ks) n
+  pub ready-is : (ks : List Call) (n : ℕ) → n < 128 → ready setup n (log.log setup queue ks) ≡ readyAt (log.run setup queue ks) n
   ready-is ks n h = ap (λ (a : Account). isReady (a .seen .sends)) (observed-is setup hh queue ks n h)
 
   waits-calls : (p q : List Call) (n : ℕ) → n < 128 → ready setup n (log.log setup queue p) ≡ true → Every (waitsOn setup n) (logOf next out (log.run setup queue p) q)

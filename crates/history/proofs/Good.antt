@@ -1,40 +1,36 @@
 -- What every state of a run keeps, and what a call that is taken does to it; the statement that each call's step proves.
 use mathlib.Core.Path.{_≡_, refl, sym, ap, _∙_, subst}
-use mathlib.Core.Logic.{_⊎_, inl, inr}
+use mathlib.Core.Logic.{_⊎_, inl}
 use mathlib.Core.Bool.{Bool, true, false, _||_, or-false}
 use mathlib.Core.List.{List, [], _∷_, _++_, map}
 use Prim.Native.Nat.{ℕ, _≤_, _<_}
-use native.Mathlib.Omega.{arith}
 use lib.ListN.{length}
-use Rattle.laws.specs.Result.{Result, ok, refused, violation}
+use Rattle.laws.specs.Result.{ok}
 use Rattle.laws.specs.Runs.{fold}
 use Rattle.ration.specs.declared.Ration.{Ration}
-use Rattle.ration.specs.Ration.{fromHeader, inRange}
-use Rattle.ration.proofs.Laws.{start-in-range}
+use Rattle.ration.specs.Ration.{fromHeader}
 use Rattle.wire.specs.declared.Role.{Role}
-use Rattle.wire.specs.declared.Message.{Message}
 use Rattle.wire.specs.Message.{readMessage}
 use Rattle.protocol.specs.declared.Session.{Session}
 use Rattle.protocol.specs.declared.Stage.{Stage}
 use Rattle.protocol.specs.declared.Setup.{Setup}
 use Rattle.protocol.specs.declared.Connection.{Connection}
-use Rattle.protocol.specs.Slot.{slotSize, queueSize}
 use Rattle.protocol.specs.Queue.{slot}
 use Rattle.protocol.specs.Message.{SessionMessage, data-of, increment-of, abort-of, close-of, acknowledgment-of, numbered}
 use Rattle.protocol.specs.Receipt.{Taken}
-use Rattle.protocol.specs.Connection.{at, roleOf, exchanged, farNumber, ownStart, farStart}
-use Rattle.protocol.specs.Judge.{Report, Out, sent, Effect, accept, with-session, commit}
+use Rattle.protocol.specs.Connection.{at, roleOf, exchanged, farNumber, farStart}
+use Rattle.protocol.specs.Judge.{Report, sent, Effect, accept, with-session, commit}
 use Rattle.protocol.specs.Result.{bytesOfAll}
-use Rattle.protocol.specs.Observed.{Event, wrote, observe, Seen, isReady, lapses, anyLapse}
+use Rattle.protocol.specs.Observed.{Event, observe, Seen, isReady, lapses, anyLapse}
 use Rattle.laws.specs.Circle.{gap}
 use Rattle.laws.proofs.Runs.{Move, still, serves}
 use Rattle.laws.proofs.Tests.{true-false}
 use borrow.Author.Tests.{eq-eqb}
 use Rattle.protocol.proofs.Views.{look, Formed}
-use Rattle.protocol.proofs.Sound.{Sound, AllLawful, Lawful, writes, isData, anyData}
-use Rattle.history.specs.Log.{Call, State, Entry, queueAfter, payloadOf, outBy}
+use Rattle.protocol.proofs.Sound.{Sound, AllLawful, writes, isData, anyData}
+use Rattle.history.specs.Log.{Call, State, queueAfter, payloadOf, outBy}
 use Rattle.history.specs.Account.{Line, lineAfter, events, reported, writtenMessage}
-use Rattle.history.specs.Claims.{dataNumber, dataWritten, has}
+use Rattle.history.specs.Claims.{dataNumber, dataWritten, isTurn, has}
 use Rattle.history.proofs.Written.{nothing-refused, numbered-read, written-own, written-other, nothing-read}
 
 abbrev pub lineOf : Connection → Line
@@ -71,6 +67,11 @@ pub record Ok (setup : Setup) (s : State) : Type 0 where
 
 -- ---- a call that is taken
 
+-- the Data message of the number, or none
+abbrev pub one : Bool → ℕ → List ℕ
+one true n = n ∷ []
+one false n = []
+
 pub record Good (setup : Setup) (s : State) (k : Call) (e : Effect) : Type 0 where
   pub inside : e .number < 128
   pub last : e .last < 128
@@ -85,8 +86,10 @@ pub record Good (setup : Setup) (s : State) (k : Call) (e : Effect) : Type 0 whe
   pub others : (m : ℕ) → (e .number ≡ m → ⊥) → events (setup .role) m (outBy s k (accept e)) ≡ []
   pub frame : (m : ℕ) → m < 128 → (e .number ≡ m → ⊥)
       → slot m (queueAfter (s .connection) (s .queue) k (accept e)) ≡ slot m (s .queue)
+  pub long : length (queueAfter (s .connection) (s .queue) k (accept e)) ≡ length (s .queue)
   pub line : lineAfter (lineOf (s .connection)) (outBy s k (accept e)) ≡ lineOf (commit (s .connection) e)
   pub moves : Move (readyAt s) (s .connection .last) (e .last) (dataWritten setup (outBy s k (accept e)))
+  pub by-turn : dataWritten setup (outBy s k (accept e)) ≡ one (isTurn k) (e .number)
   pub lasts : readyAt s (e .number) ≡ true → anyLapse (events (setup .role) (e .number) (outBy s k (accept e))) ≡ false
       → has (e .number) (dataWritten setup (outBy s k (accept e))) ≡ false
       → isReady (look (farBy (e .stage)) (e .session) (slot (e .number) (queueAfter (s .connection) (s .queue) k (accept e))) .sends) ≡ true
@@ -99,6 +102,7 @@ Mark s n last true = (last ≡ n) × ((m : ℕ) → m < 128 → readyAt s m ≡ 
 -- what a call that concerns one session has to show; `d` says whether it writes a Data message
 pub record ForSession (setup : Setup) (s : State) (k : Call) (n last : ℕ) (rep : Report) (h : List Event) (d : Bool) (t : Taken) : Type 0 where
   pub mark : Mark s n last d
+  pub turns : d ≡ isTurn k
   pub inside : n < 128
   pub last-inside : last < 128
   pub up : exchanged (s .connection .stage) ≡ true
@@ -109,6 +113,7 @@ pub record ForSession (setup : Setup) (s : State) (k : Call) (n last : ℕ) (rep
   pub not-told : (m : ℕ) → (n ≡ m → ⊥) → reported m k rep ≡ []
   pub frame : (m : ℕ) → m < 128 → (n ≡ m → ⊥)
       → slot m (queueAfter (s .connection) (s .queue) k (accept (with-session (s .connection) n last rep t))) ≡ slot m (s .queue)
+  pub long : length (queueAfter (s .connection) (s .queue) k (accept (with-session (s .connection) n last rep t))) ≡ length (s .queue)
   pub line : lineAfter (lineOf (s .connection)) (outBy s k (accept (with-session (s .connection) n last rep t))) ≡ lineOf (s .connection)
 
 module _ (r : Role) (own far : Ration) (x : Session) (sl : List ℕ) (h : List Event) (n : ℕ) (hn : n < 128) (payload : List ℕ) where
@@ -124,11 +129,6 @@ module _ (r : Role) (own far : Ration) (x : Session) (sl : List ℕ) (h : List E
   wrote-other i d [] l = nothing-read r payload i
   wrote-other i d (m ∷ []) l = ap (writtenMessage i) (numbered-read r n m payload hn (l .ours) (l .fits) (l .body)) ∙ written-other i n m d
   wrote-other i d (m ∷ j ∷ ms) l = absurd l
-
--- the Data message of the number, or none
-abbrev pub one : Bool → ℕ → List ℕ
-one true n = n ∷ []
-one false n = []
 
 data-of-numbered : (n : ℕ) (m : SessionMessage) → dataNumber (ok (numbered n m)) ≡ one (isData m) n
 data-of-numbered n (data-of k b c e a) = refl
@@ -200,8 +200,10 @@ session-good setup s k n last rep h d t o g =
           λ m d. append-path (g .not-told m d)
           (wrote-other (setup .role) (ownOf setup) far x sl h n (g .inside) payload m d (t .sent) (g .sound .lawful));
       frame = g .frame;
+      long = g .long;
       line = g .line;
       moves = moved setup s k n last rep h t o d g;
+      by-turn = written-data setup s k n last rep h t o d g ∙ ap (λ (b : Bool). one b n) (g .turns);
       lasts = lasting setup s k n last rep h t o d g (events (setup .role) n (outBy s k (accept e))) (append-path (g .told) own-events);
     }
   where

@@ -7,3 +7,6 @@ pub mod Lines
 pub mod Receives
 pub mod Simulation
 pub mod Fair
+pub mod Turning
+pub mod Never
+pub mod Bounded

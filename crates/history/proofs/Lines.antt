@@ -1,7 +1,7 @@
 -- The calls that concern the connection as a whole keep what is observed: no session number sees anything happen.
 use mathlib.Core.Path.{_≡_, refl, sym, ap, _∙_, subst}
 use mathlib.Core.Logic.{_⊎_, inl, inr}
-use mathlib.Core.Bool.{Bool, true, false, not, _&&_, false≢true, true≢false, and-false}
+use mathlib.Core.Bool.{Bool, true, false, false≢true, true≢false, and-false}
 use mathlib.Core.List.{List, [], _∷_, _++_}
 use Prim.Native.Nat.{ℕ, _≤_, _<_}
 use native.Mathlib.Omega.{arith}
@@ -9,14 +9,14 @@ use lib.ListN.{length, take}
 use Rattle.laws.specs.Pick.{pick}
 use Rattle.laws.specs.Result.{Result, ok, refused, violation}
 use Rattle.laws.specs.Runs.{fold}
-use Rattle.laws.proofs.Tests.{not-false, true-false}
+use Rattle.laws.proofs.Tests.{not-false}
 use Rattle.ration.specs.declared.Ration.{Ration}
 use Rattle.wire.specs.declared.Role.{Role}
 use Rattle.wire.specs.declared.Role.the-variants as role
 use Rattle.wire.specs.declared.Message.{Message}
 use Rattle.wire.specs.declared.Message.the-variants as msg
 use Rattle.wire.specs.FirstByte.{kindOf}
-use Rattle.wire.specs.Message.{isClient, isServer, readMessage, parseHeader, typed, allowed, withBody, maySend}
+use Rattle.wire.specs.Message.{isClient, isServer, readMessage, parseHeader, typed, allowed}
 use Rattle.protocol.specs.declared.Sides.{Sides}
 use Rattle.protocol.specs.declared.Sides.the-variants as sides
 use Rattle.protocol.specs.declared.Session.{Session}
@@ -25,21 +25,20 @@ use Rattle.protocol.specs.declared.Stage.the-variants as stage
 use Rattle.protocol.specs.declared.Ping.{Ping}
 use Rattle.protocol.specs.declared.Ping.the-variants as ping
 use Rattle.protocol.specs.Queue.{slot}
-use Rattle.protocol.specs.Plan.{Plan}
-use Rattle.protocol.specs.Message.{Scope, whole, scope}
-use Rattle.protocol.specs.Connection.{Cause, own-shutdown, line-lost, at, roleOf, exchanged, farNumber, farStart, placed, ending, ended}
-use Rattle.protocol.specs.Judge.{Report, done, header, message, Out, opening, sent, Ending, goes-on, ends, Effect, accept, unchanged, ends-by, with-ping, with-stage, commit}
+use Rattle.protocol.specs.Message.{whole, scope}
+use Rattle.protocol.specs.Connection.{own-shutdown, line-lost, at, roleOf, exchanged, farNumber, farStart, placed, ending}
+use Rattle.protocol.specs.Judge.{Report, done, Out, opening, sent, Ending, goes-on, ends, Effect, accept, commit}
 use Rattle.protocol.specs.Call.{startRule, pingRule, shutdownRule, lostRule, isFresh}
 use Rattle.protocol.specs.Result.{bytesOfAll}
 use Rattle.protocol.specs.Observed.{Event, observe, Seen, isReady}
 use Rattle.protocol.proofs.Plans.{Takes}
 use Rattle.protocol.proofs.Views.{sendsOf, look, seen-path, Formed}
-use Rattle.history.specs.Log.{Call, start, shutdown, lost, State, queueAfter, payloadOf, outBy}
+use Rattle.history.specs.Log.{Call, start, shutdown, lost, State, queueAfter, outBy}
 use Rattle.history.specs.Log as log
-use Rattle.history.specs.Account.{Line, lineAfter, events, reported, writtenMessage, inScope}
-use Rattle.history.proofs.Good.{Ok, Good, setupOf, lineOf, holds, ownOf, farBy}
+use Rattle.history.specs.Account.{lineAfter, events, reported, writtenMessage, inScope}
+use Rattle.history.proofs.Good.{Ok, Good, setupOf, lineOf, holds, ownOf, farBy, one}
 use Rattle.history.proofs.Written.{Sendable, sent-read, nothing-read, only-own}
-use Rattle.history.specs.Claims.{dataNumber}
+use Rattle.history.specs.Claims.{dataNumber, dataWritten, isTurn}
 use Rattle.laws.proofs.Runs.{still}
 
 -- ---- what is written is of no session
@@ -122,14 +121,14 @@ module _ (s : State) (o : Ok (setupOf (s .connection)) s) where
       idle-look (at (s .connection) n) sl (farBy st) (farStart (s .connection))
       (subst (λ (b : Bool). Formed (roleOf (s .connection .stage)) b (at (s .connection) n)) e (o .formed n h))
 
-  pub line-good : (k : Call) (st : Stage) (p : Ping) (en : Ending) (rep : Report) (outs : List Out)
+  pub line-good : (k : Call) (st : Stage) (p : Ping) (en : Ending) (rep : Report) (outs : List Out) → isTurn k ≡ false
       → queueAfter (s .connection) (s .queue) k (accept (lineEffect st p en rep outs)) ≡ s .queue → roleOf st ≡ roleOf (s .connection .stage) → farNumber st < 65_536
       → (st ≡ s .connection .stage) ⊎ (exchanged (s .connection .stage) ≡ false)
       → ((m : ℕ) → events (roleOf (s .connection .stage)) m (outBy s k (accept (lineEffect st p en rep outs))) ≡ [])
       → lineAfter (lineOf (s .connection)) (outBy s k (accept (lineEffect st p en rep outs))) ≡ lineOf (commit (s .connection) (lineEffect st p en rep outs))
       → Good (setupOf (s .connection)) s k (lineEffect st p en rep outs)
   unfolding fold
-  line-good k st p en rep outs hq hr hf stages none line =
+  line-good k st p en rep outs ht hq hr hf stages none line =
       record {
         inside = omega arith;
         last = o .last;
@@ -143,12 +142,17 @@ module _ (s : State) (o : Ok (setupOf (s .connection)) s) where
             ∙ ap (λ (es : List Event). fold (observe (ownOf (setupOf (s .connection))) (farStart (s .connection))) (holds s 0) es) (sym (none 0));
         others = λ m _. none m;
         frame = λ m _ _. ap (slot m) hq;
+        long = ap length hq;
         line = line;
-        moves = still (no-data (readMessage (roleOf (s .connection .stage)) _) (λ m. append-empty (reported m k rep) _ (none m))) refl;
+        moves = still silent-line refl;
+        by-turn = silent-line ∙ sym (ap (λ (b : Bool). one b 0) ht);
         lasts =
             λ hr _ _. ap (λ (q : List ℕ). isReady (look (farBy st) (at (s .connection) 0) (slot 0 q) .sends)) hq
             ∙ ap (λ (v : Seen). isReady (v .sends)) (stage-look st stages 0 (omega arith) (slot 0 (s .queue))) ∙ hr;
       }
+    where
+      silent-line : dataWritten (setupOf (s .connection)) (outBy s k (accept (lineEffect st p en rep outs))) ≡ []
+      silent-line = no-data (readMessage (roleOf (s .connection .stage)) _) (λ m. append-empty (reported m k rep) _ (none m))
 
   client-is : (r : Role) → isServer r ≡ false → role.Client ≡ r
   client-is role.Client e = refl
@@ -166,7 +170,7 @@ module _ (s : State) (o : Ok (setupOf (s .connection)) s) where
   pub start-good : (room : List ℕ) → Takes (Good (setupOf (s .connection)) s (start room)) (startRule (s .connection) (length room))
   unfolding startRule
   start-good room _ _ _ server fresh =
-      line-good (start room) stage.Started (s .connection .ping) goes-on done (opening (s .connection .own) ∷ []) refl
+      line-good (start room) stage.Started (s .connection .ping) goes-on done (opening (s .connection .own) ∷ []) refl refl
       (client-is (roleOf (s .connection .stage)) server) (omega arith) (inr (fresh-not-up (s .connection .stage) (not-false _ fresh)))
       (λ m. header-no-message (roleOf (s .connection .stage)) [] (s .connection .own) m) refl
 
@@ -174,18 +178,18 @@ module _ (s : State) (o : Ok (setupOf (s .connection)) s) where
       → Takes (Good (setupOf (s .connection)) s (log.ping cookie room)) (pingRule (s .connection) cookie (length room))
   unfolding pingRule
   ping-good cookie room _ _ _ _ _ =
-      line-good (log.ping cookie room) (s .connection .stage) (ping.Outstanding cookie) goes-on done (sent (msg.Ping cookie) ∷ []) refl refl (o .far) (inl refl)
+      line-good (log.ping cookie room) (s .connection .stage) (ping.Outstanding cookie) goes-on done (sent (msg.Ping cookie) ∷ []) refl refl refl (o .far) (inl refl)
       (λ m. ping-no-event (roleOf (s .connection .stage)) cookie m) refl
 
   pub shutdown-good : (room : List ℕ) → Takes (Good (setupOf (s .connection)) s (shutdown room)) (shutdownRule (s .connection) (length room))
   unfolding shutdownRule
   shutdown-good room _ _ _ _ client =
-      line-good (shutdown room) (s .connection .stage) (s .connection .ping) (ends own-shutdown) done (sent (msg.Shutdown 0) ∷ []) refl refl (o .far) (inl refl)
+      line-good (shutdown room) (s .connection .stage) (s .connection .ping) (ends own-shutdown) done (sent (msg.Shutdown 0) ∷ []) refl refl refl (o .far) (inl refl)
       (λ m. whole-no-event (roleOf (s .connection .stage)) [] (msg.Shutdown 0) m
       (record { shift = omega arith; session = omega arith; number = omega arith; sender = server-is (roleOf (s .connection .stage)) client; flags = refl; body = omega arith }) refl) refl
 
   pub lost-good : Takes (Good (setupOf (s .connection)) s lost) (lostRule (s .connection))
   unfolding lostRule
   lost-good _ _ =
-      line-good lost (s .connection .stage) (s .connection .ping) (ends line-lost) done [] refl refl (o .far) (inl refl)
+      line-good lost (s .connection .stage) (s .connection .ping) (ends line-lost) done [] refl refl refl (o .far) (inl refl)
       (λ m. nothing-read (roleOf (s .connection .stage)) [] m) refl

@@ -1,33 +1,32 @@
 -- Put and turn, where they are taken, keep what is observed and touch one slot of the queue: from their lemmas about one session.
-use mathlib.Core.Path.{_≡_, refl, sym, ap, _∙_, subst}
-use mathlib.Core.Bool.{Bool, true, false, not}
+use mathlib.Core.Path.{_≡_, refl, sym, _∙_, subst}
+use mathlib.Core.Bool.{true, false, not}
 use mathlib.Core.List.{List, [], _∷_}
 use Prim.Native.Nat.{ℕ, _+_, _-_, _≤_, _<_}
 use native.Mathlib.Omega.{arith}
 use lib.ListN.{length}
-use lib.Dec.{eqb, leb, ltb}
+use lib.Dec.{eqb}
 use borrow.Author.Tests.{leb-false, ltb-false, eqb-true}
 use Rattle.laws.proofs.Circle.{nearest-lt, nearest-found}
 use Rattle.laws.specs.Circle.{gap}
 use Rattle.laws.proofs.Tests.{not-false}
 use Rattle.protocol.specs.declared.Session.{Session}
 use Rattle.protocol.specs.Slot.{slotSize, queueSize}
-use Rattle.protocol.specs.Queue.{slot, withSlot, putSlot, turnSlot}
+use Rattle.protocol.specs.Queue.{slot, putSlot, turnSlot}
 use Rattle.protocol.specs.Session.{queued}
-use Rattle.protocol.specs.Plan.{Plan, andThen}
 use Rattle.protocol.specs.Receipt.{Taken}
 use Rattle.protocol.specs.Ask.{putAsk, turnAsk, ready}
 use Rattle.protocol.specs.Connection.{at, roleOf, exchanged, farStart, ownStart}
-use Rattle.protocol.specs.Judge.{done, served, accept, with-session}
-use Rattle.protocol.specs.Call.{putRule, turnRule, nextReady, serving}
-use Rattle.protocol.specs.Observed.{Event, puts}
+use Rattle.protocol.specs.Judge.{done, served, with-session}
+use Rattle.protocol.specs.Call.{putRule, turnRule, nextReady}
+use Rattle.protocol.specs.Observed.{puts}
 use Rattle.protocol.proofs.Plans.{Takes, takes-then, takes-map}
 use Rattle.protocol.proofs.Views.{Formed, ready-look}
 use Rattle.protocol.proofs.Sound.{Sound}
-use Rattle.protocol.proofs.Slots.{slot-same, slot-other, put-length, turn-length, slot-length}
+use Rattle.protocol.proofs.Slots.{with-length, slot-same, slot-other, put-length, turn-length}
 use Rattle.protocol.proofs.Asks.{put-sound}
 use Rattle.protocol.proofs.Turns.{turn-sound}
-use Rattle.history.specs.Log.{Call, put, turn, State}
+use Rattle.history.specs.Log.{put, turn, State}
 use Rattle.history.proofs.Good.{Ok, Good, ForSession, session-good, setupOf, readyAt}
 use Rattle.history.proofs.Written.{only-own, only-other}
 use Rattle.history.proofs.Steps.{formed-up, own-range, far-range}
@@ -56,6 +55,7 @@ module _ (s : State) (o : Ok (setupOf (s .connection)) s) where
       session-good (setupOf (s .connection)) s (put n bytes) n (s .connection .last) done (puts bytes ∷ []) false t o
       (record {
         mark = refl;
+        turns = refl;
         inside = hn;
         last-inside = o .last;
         up = hu;
@@ -63,6 +63,7 @@ module _ (s : State) (o : Ok (setupOf (s .connection)) s) where
         told = only-own n (puts bytes);
         not-told = λ m d. only-other m n (puts bytes) d;
         frame = λ m _ d. slot-other n (putSlot (x .waiting) bytes sl) (s .queue) hn hq size m (λ e. d (sym e));
+        long = with-length n (putSlot (x .waiting) bytes sl) (s .queue) hn hq size ∙ sym hq;
         line = refl;
       })
 
@@ -103,6 +104,7 @@ module _ (s : State) (o : Ok (setupOf (s .connection)) s) where
           let same = slot-same n (turnSlot (x .waiting) (x .waiting - t .session .waiting) sl) (s .queue) hn hq size in
           record {
             mark = (refl, near);
+            turns = refl;
             inside = hn;
             last-inside = hn;
             up = not-false (exchanged (s .connection .stage)) up;
@@ -110,5 +112,6 @@ module _ (s : State) (o : Ok (setupOf (s .connection)) s) where
             told = refl;
             not-told = λ _ _. refl;
             frame = λ m _ d. slot-other n (turnSlot (x .waiting) (x .waiting - t .session .waiting) sl) (s .queue) hn hq size m (λ e. d (sym e));
+            long = with-length n (turnSlot (x .waiting) (x .waiting - t .session .waiting) sl) (s .queue) hn hq size ∙ sym hq;
             line = refl;
           }

@@ -1,9 +1,9 @@
 -- A receive, where it takes something, keeps what is observed: from the lemma about each message and one session.
 use mathlib.Core.Path.{_≡_, refl, sym, ap, _∙_, subst}
-use mathlib.Core.Logic.{_⊎_, inl, inr}
-use mathlib.Core.Bool.{Bool, true, false, not}
+use mathlib.Core.Logic.{inl, inr}
+use mathlib.Core.Bool.{true, false}
 use mathlib.Core.List.{List, [], _∷_}
-use Prim.Native.Nat.{ℕ, _≤_, _<_}
+use Prim.Native.Nat.{ℕ, _<_}
 use native.Mathlib.Omega.{arith}
 use lib.ListN.{length}
 use Rattle.laws.specs.Result.{Result, ok, refused, violation}
@@ -11,19 +11,18 @@ use Rattle.wire.specs.declared.Role.{Role}
 use Rattle.wire.specs.declared.Role.the-variants as role
 use Rattle.wire.specs.declared.Message.{Message}
 use Rattle.wire.specs.declared.Message.the-variants as msg
-use Rattle.wire.specs.Message.{readMessage, secondByte, numberOf}
+use Rattle.wire.specs.Message.{readMessage, secondByte}
 use Rattle.wire.specs.Connection.{readConnectionHeader}
 use Rattle.wire.proofs.Bounds.{Sent, message-sent, header-number}
 use Rattle.protocol.specs.declared.Stage.{Stage}
 use Rattle.protocol.specs.declared.Stage.the-variants as stage
 use Rattle.protocol.specs.declared.Ping.the-variants as ping
-use Rattle.protocol.specs.declared.Connection.{Connection}
 use Rattle.protocol.specs.Queue.{slot}
 use Rattle.protocol.specs.Plan.{Plan, stop, check, take, settle}
 use Rattle.protocol.specs.Message.{SessionMessage, Scope, whole, of-session, scope}
 use Rattle.protocol.specs.Receipt.{Taken, receipt}
 use Rattle.protocol.specs.Connection.{shutdown-received, error-received, line-lost, at, roleOf, exchanged, farStart, ownStart}
-use Rattle.protocol.specs.Judge.{Report, header, message, Out, opening, sent, goes-on, ends, Effect, Decision, refuse, violate, accept, with-session, errorAfter, breach, judgeWhole, judgeScope, judge}
+use Rattle.protocol.specs.Judge.{header, message, sent, goes-on, ends, Decision, refuse, violate, accept, with-session, errorAfter, breach, judgeWhole, judgeScope, judge}
 use Rattle.protocol.specs.Call.{otherEnd, answering, headerTaken, messageTaken, reading, receiveGate, receiveRule}
 use Rattle.protocol.specs.Result.{bytesOfAll}
 use Rattle.protocol.specs.Observed.{received}
@@ -33,7 +32,7 @@ use Rattle.protocol.proofs.Receipts.{receipt-sound}
 use Rattle.history.specs.Log.{Call, receive, State}
 use Rattle.history.specs.Account.{Line, lineByMessage, inScope, writtenMessage}
 use Rattle.history.proofs.Good.{Ok, Good, ForSession, session-good, setupOf, lineOf}
-use Rattle.history.proofs.Written.{Sendable, nothing-read, only-own, only-other}
+use Rattle.history.proofs.Written.{nothing-read, only-own, only-other}
 use Rattle.history.proofs.Steps.{formed-up, own-range, far-range}
 use Rattle.history.proofs.Lines.{header-no-message, whole-no-event, line-good}
 
@@ -94,7 +93,7 @@ module _ (s : State) (o : Ok (setupOf (s .connection)) s) (input room : List ℕ
   header-good : (r : Role) → roleOf (s .connection .stage) ≡ r → exchanged (s .connection .stage) ≡ false → (h : Result ℕ) → readConnectionHeader input ≡ h
       → GoodBy s (receive input room) (headerTaken (s .connection) r h)
   header-good r er up (ok far) q =
-      line-good s o (receive input room) (stage.Up r far) (s .connection .ping) goes-on (header far) (answering r (s .connection .own)) refl (sym er)
+      line-good s o (receive input room) (stage.Up r far) (s .connection .ping) goes-on (header far) (answering r (s .connection .own)) refl refl (sym er)
       (header-number input far q) (inr up)
       (λ n. subst (λ (z : Role). writtenMessage n (readMessage z (bytesOfAll [] (answering r (s .connection .own)))) ≡ []) (sym er) (answers r n))
       (ap (λ (z : Role). record { over = s .connection .over; stage = stage.Up z far; ping = s .connection .ping }) er)
@@ -106,20 +105,20 @@ module _ (s : State) (o : Ok (setupOf (s .connection)) s) (input room : List ℕ
   whole-good : (m : Message) → exchanged (s .connection .stage) ≡ true → Sent (otherEnd (roleOf (s .connection .stage))) m
       → Takes (λ e. GoodBy s (receive input room) (accept e)) (judgeWhole (s .connection) m)
   whole-good (msg.NoOperation n) up w =
-      line-good s o (receive input room) (s .connection .stage) (s .connection .ping) goes-on (message (msg.NoOperation n) false) [] refl refl (o .far) (inl refl)
+      line-good s o (receive input room) (s .connection .stage) (s .connection .ping) goes-on (message (msg.NoOperation n) false) [] refl refl refl (o .far) (inl refl)
       (λ i. nothing-read (roleOf (s .connection .stage)) [] i) refl
   whole-good (msg.Shutdown n) up w =
-      line-good s o (receive input room) (s .connection .stage) (s .connection .ping) (ends shutdown-received) (message (msg.Shutdown n) false) [] refl refl (o .far) (inl refl)
+      line-good s o (receive input room) (s .connection .stage) (s .connection .ping) (ends shutdown-received) (message (msg.Shutdown n) false) [] refl refl refl (o .far) (inl refl)
       (λ i. nothing-read (roleOf (s .connection .stage)) [] i) refl
   whole-good (msg.Ping k) up w =
-      line-good s o (receive input room) (s .connection .stage) (s .connection .ping) goes-on (message (msg.Ping k) false) (sent (msg.PingAck k) ∷ []) refl refl (o .far) (inl refl)
+      line-good s o (receive input room) (s .connection .stage) (s .connection .ping) goes-on (message (msg.Ping k) false) (sent (msg.PingAck k) ∷ []) refl refl refl (o .far) (inl refl)
       (λ i. whole-no-event (roleOf (s .connection .stage)) [] (msg.PingAck k) i
       (record { shift = omega arith; session = omega arith; number = w .number; sender = refl; flags = refl; body = omega arith }) refl) refl
   whole-good (msg.PingAck k) up w = λ _.
-      line-good s o (receive input room) (s .connection .stage) ping.None goes-on (message (msg.PingAck k) false) [] refl refl (o .far) (inl refl)
+      line-good s o (receive input room) (s .connection .stage) ping.None goes-on (message (msg.PingAck k) false) [] refl refl refl (o .far) (inl refl)
       (λ i. nothing-read (roleOf (s .connection .stage)) [] i) refl
   whole-good (msg.Error n) up w =
-      line-good s o (receive input room) (s .connection .stage) (s .connection .ping) (ends error-received) (message (msg.Error n) false) [] refl refl (o .far) (inl refl)
+      line-good s o (receive input room) (s .connection .stage) (s .connection .ping) (ends error-received) (message (msg.Error n) false) [] refl refl refl (o .far) (inl refl)
       (λ i. nothing-read (roleOf (s .connection .stage)) [] i) refl
   whole-good (msg.IncrementRation t i n) up w = tt
   whole-good (msg.Abort p i n) up w = tt
@@ -133,6 +132,7 @@ module _ (s : State) (o : Ok (setupOf (s .connection)) s) (input room : List ℕ
   session-message m i sm e up hi t snd =
       record {
         mark = refl;
+        turns = refl;
         inside = hi;
         last-inside = o .last;
         up = up;
@@ -140,6 +140,7 @@ module _ (s : State) (o : Ok (setupOf (s .connection)) s) (input room : List ℕ
         told = ap (inScope i (λ z. received z (t .late))) e ∙ only-own i (received sm (t .late));
         not-told = λ n d. ap (inScope n (λ z. received z (t .late))) e ∙ only-other n i (received sm (t .late)) d;
         frame = λ _ _ _. refl;
+        long = refl;
         line = scope-line (lineOf (s .connection)) m i sm e;
       }
 

@@ -1,16 +1,14 @@
 -- Over every list of calls, what the log tells is what the state holds; and every state of a run is well formed.
 use mathlib.Core.Path.{_≡_, refl, sym, ap, _∙_, subst}
-use mathlib.Core.Logic.{_⊎_, inl, inr, _≢_}
-use mathlib.Core.Bool.{Bool, true, false, not, _&&_}
-use mathlib.Core.List.{List, [], _∷_, _++_, map}
-use Prim.Native.Nat.{ℕ, zero, suc, _+_, _≤_, _<_}
+use mathlib.Core.Bool.{Bool, true, false}
+use mathlib.Core.List.{List, [], _∷_, map}
+use Prim.Native.Nat.{ℕ, suc, _≤_, _<_}
 use native.Mathlib.Omega.{arith}
-use lib.ListN.{length, getD, set, replicate, length-set, length-map, length-replicate, getD-replicate, List·getD-map}
+use lib.ListN.{length, getD, set, length-set, length-map, length-replicate, getD-replicate, List·getD-map}
 use lib.Seq.{getD-set-same, getD-set-other}
 use lib.Dec.{eqb}
 use borrow.Author.Tests.{eqb-true, eqb-false, lt-ltb}
 use Rattle.laws.specs.Runs.{run, logOf, fold}
-use Rattle.laws.proofs.Runs.{fold-append}
 use Rattle.laws.proofs.Tests.{and-both}
 use Rattle.ration.specs.declared.Ration.{Ration}
 use Rattle.wire.specs.declared.Role.{Role}
@@ -19,13 +17,13 @@ use Rattle.protocol.specs.declared.Setup.{Setup}
 use Rattle.protocol.specs.declared.Connection.{Connection}
 use Rattle.protocol.specs.Queue.{slot}
 use Rattle.protocol.specs.Session.{blank}
-use Rattle.protocol.specs.Connection.{Cause, shutdown-received, error-received, own-shutdown, line-lost, at, roleOf, exchanged, farNumber, farStart, sessionFormed, allFormed, wellFormed, ending, ended, fresh}
-use Rattle.protocol.specs.Judge.{Ending, goes-on, ends, Effect, Breach, Decision, refuse, violate, accept, continued, commit}
-use Rattle.protocol.specs.Observed.{Seen, observe}
+use Rattle.protocol.specs.Connection.{Cause, shutdown-received, error-received, own-shutdown, line-lost, at, roleOf, exchanged, farStart, allFormed, wellFormed, ending, ended, fresh}
+use Rattle.protocol.specs.Judge.{Ending, goes-on, ends, Effect, Breach, Decision, refuse, violate, accept, continued}
+use Rattle.protocol.specs.Observed.{observe}
 use Rattle.protocol.proofs.Views.{look, Formed, formed-is}
-use Rattle.history.specs.Log.{Call, start, open-session, put, finish, turn, grant, abort, close, shutdown, lost, receive, State, Entry, decide, queueAfter, nextBy, outBy, next, out, made}
+use Rattle.history.specs.Log.{Call, start, open-session, put, finish, turn, grant, abort, close, shutdown, lost, receive, State, decide, queueAfter, nextBy, outBy, next, out, made}
 use Rattle.history.specs.Log as log
-use Rattle.history.specs.Account.{Line, Account, blankAccount, accountAfter, observed, events}
+use Rattle.history.specs.Account.{Account, blankAccount, accountAfter, observed, events}
 use Rattle.history.proofs.Good.{Ok, Good, setupOf, lineOf, holds, ownOf, farBy}
 use Rattle.history.proofs.Steps.{open-good, finish-good, grant-good, abort-good, close-good}
 use Rattle.history.proofs.Moves.{put-good, turn-good}

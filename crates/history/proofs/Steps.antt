@@ -1,36 +1,28 @@
 -- Each local call, where it is taken, keeps what is observed: from the call's lemma about one session.
-use mathlib.Core.Path.{_≡_, refl, sym, ap, _∙_, subst}
-use mathlib.Core.Logic.{_⊎_, inl, inr}
-use mathlib.Core.Bool.{Bool, true, false, not, _&&_, true≢false}
-use mathlib.Core.List.{List, [], _∷_, _++_}
-use Prim.Native.Nat.{ℕ, _+_, _-_, _*_, _≤_, _<_}
+use mathlib.Core.Path.{_≡_, refl, subst}
+use mathlib.Core.Bool.{Bool, true, false, not}
+use mathlib.Core.List.{List, [], _∷_}
+use Prim.Native.Nat.{ℕ, _<_}
 use native.Mathlib.Omega.{arith}
 use lib.ListN.{length}
-use lib.Dec.{eqb, leb, ltb}
-use borrow.Author.Tests.{leb-false, ltb-false, eqb-true}
-use Rattle.laws.specs.Circle.{nearest}
-use Rattle.laws.proofs.Circle.{nearest-lt}
+use borrow.Author.Tests.{leb-false}
 use Rattle.laws.proofs.Tests.{not-false}
-use Rattle.ration.specs.Ration.{inRange, fromHeader}
+use Rattle.ration.specs.Ration.{inRange}
 use Rattle.ration.proofs.Laws.{start-in-range}
-use Rattle.protocol.specs.declared.Session.{Session}
-use Rattle.protocol.specs.Slot.{slotSize, queueSize}
-use Rattle.protocol.specs.Queue.{slot, withSlot, putSlot, turnSlot}
+use Rattle.protocol.specs.Queue.{slot}
 use Rattle.protocol.specs.Plan.{Plan, andThen}
 use Rattle.protocol.specs.Receipt.{Taken}
-use Rattle.protocol.specs.Ask.{openAsk, putAsk, finishAsk, grantAsk, abortAsk, closeAsk, turnAsk, ready}
+use Rattle.protocol.specs.Ask.{openAsk, finishAsk, grantAsk, abortAsk, closeAsk}
 use Rattle.protocol.specs.Connection.{at, roleOf, exchanged, farNumber, farStart, ownStart}
-use Rattle.protocol.specs.Judge.{done, served, Effect, accept, with-session}
-use Rattle.protocol.specs.Call.{openRule, putRule, finishRule, turnRule, grantRule, abortRule, closeRule, nextReady}
-use Rattle.protocol.specs.Observed.{Event, opens, finishes, aborts, puts}
+use Rattle.protocol.specs.Judge.{done, with-session}
+use Rattle.protocol.specs.Call.{openRule, finishRule, grantRule, abortRule, closeRule}
+use Rattle.protocol.specs.Observed.{Event, opens, finishes, aborts}
 use Rattle.protocol.proofs.Plans.{Takes, takes-then, takes-map}
-use Rattle.protocol.proofs.Views.{look, Formed}
+use Rattle.protocol.proofs.Views.{Formed}
 use Rattle.protocol.proofs.Sound.{Sound}
-use Rattle.protocol.proofs.Slots.{slot-same, slot-other, put-length, turn-length, slot-length}
-use Rattle.protocol.proofs.Asks.{open-sound, put-sound, finish-sound, grant-sound, abort-sound, close-sound}
-use Rattle.protocol.proofs.Turns.{turn-sound}
-use Rattle.history.specs.Log.{Call, open-session, put, finish, turn, grant, abort, close, State}
-use Rattle.history.proofs.Good.{Ok, Good, ForSession, session-good, setupOf, ownOf}
+use Rattle.protocol.proofs.Asks.{open-sound, finish-sound, grant-sound, abort-sound, close-sound}
+use Rattle.history.specs.Log.{Call, open-session, finish, grant, abort, close, State}
+use Rattle.history.proofs.Good.{Ok, Good, ForSession, session-good, setupOf}
 use Rattle.history.proofs.Written.{only-own, only-other}
 
 module _ (s : State) (o : Ok (setupOf (s .connection)) s) where
@@ -61,6 +53,7 @@ module _ (s : State) (o : Ok (setupOf (s .connection)) s) where
       quiet-good (open-session n) n (opens ∷ []) (openAsk (roleOf (s .connection .stage)) (at (s .connection) n)) hn up
       (λ t snd. record {
         mark = refl;
+        turns = refl;
         inside = hn;
         last-inside = o .last;
         up = hu;
@@ -68,6 +61,7 @@ module _ (s : State) (o : Ok (setupOf (s .connection)) s) where
         told = only-own n opens;
         not-told = λ m d. only-other m n opens d;
         frame = λ _ _ _. refl;
+        long = refl;
         line = refl;
       })
       (open-sound (roleOf (s .connection .stage)) (ownStart (s .connection)) (farStart (s .connection)) (at (s .connection) n) (slot n (s .queue)) (formed-up hu n hn))
@@ -80,6 +74,7 @@ module _ (s : State) (o : Ok (setupOf (s .connection)) s) where
       quiet-good (finish n) n (finishes ∷ []) (finishAsk (at (s .connection) n)) hn up
       (λ t snd. record {
         mark = refl;
+        turns = refl;
         inside = hn;
         last-inside = o .last;
         up = hu;
@@ -87,6 +82,7 @@ module _ (s : State) (o : Ok (setupOf (s .connection)) s) where
         told = only-own n finishes;
         not-told = λ m d. only-other m n finishes d;
         frame = λ _ _ _. refl;
+        long = refl;
         line = refl;
       })
       (finish-sound (roleOf (s .connection .stage)) (ownStart (s .connection)) (farStart (s .connection)) (at (s .connection) n) (slot n (s .queue)) (formed-up hu n hn))
@@ -99,6 +95,7 @@ module _ (s : State) (o : Ok (setupOf (s .connection)) s) where
       quiet-good (grant n amount room) n [] (grantAsk (at (s .connection) n) amount) hn up
       (λ t snd. record {
         mark = refl;
+        turns = refl;
         inside = hn;
         last-inside = o .last;
         up = hu;
@@ -106,6 +103,7 @@ module _ (s : State) (o : Ok (setupOf (s .connection)) s) where
         told = refl;
         not-told = λ _ _. refl;
         frame = λ _ _ _. refl;
+        long = refl;
         line = refl;
       })
       (grant-sound (roleOf (s .connection .stage)) (ownStart (s .connection)) (farStart (s .connection)) (at (s .connection) n) (slot n (s .queue)) amount (formed-up hu n hn))
@@ -119,6 +117,7 @@ module _ (s : State) (o : Ok (setupOf (s .connection)) s) where
       quiet-good (abort n partial room) n (aborts ∷ []) (abortAsk (roleOf (s .connection .stage)) (at (s .connection) n) partial) hn up
       (λ t snd. record {
         mark = refl;
+        turns = refl;
         inside = hn;
         last-inside = o .last;
         up = hu;
@@ -126,6 +125,7 @@ module _ (s : State) (o : Ok (setupOf (s .connection)) s) where
         told = only-own n aborts;
         not-told = λ m d. only-other m n aborts d;
         frame = λ _ _ _. refl;
+        long = refl;
         line = refl;
       })
       (abort-sound (roleOf (s .connection .stage)) (ownStart (s .connection)) (farStart (s .connection)) (at (s .connection) n) (slot n (s .queue)) partial (formed-up hu n hn))
@@ -138,6 +138,7 @@ module _ (s : State) (o : Ok (setupOf (s .connection)) s) where
       quiet-good (close n room) n [] (closeAsk (roleOf (s .connection .stage)) (at (s .connection) n)) hn up
       (λ t snd. record {
         mark = refl;
+        turns = refl;
         inside = hn;
         last-inside = o .last;
         up = hu;
@@ -145,6 +146,7 @@ module _ (s : State) (o : Ok (setupOf (s .connection)) s) where
         told = refl;
         not-told = λ _ _. refl;
         frame = λ _ _ _. refl;
+        long = refl;
         line = refl;
       })
       (close-sound (roleOf (s .connection .stage)) (ownStart (s .connection)) (farStart (s .connection)) (at (s .connection) n) (slot n (s .queue)) (formed-up hu n hn))

@@ -1,27 +1,24 @@
 -- What a call writes is read back by the reader as the message meant: from the round trip of the wire format.
 use mathlib.Core.Path.{_≡_, refl, sym, ap, _∙_}
-use mathlib.Core.Bool.{Bool, true, false, _&&_}
-use mathlib.Core.List.{List, [], _∷_, _++_, append-nil}
-use Prim.Native.Nat.{ℕ, _*_, _≤_, _<_}
+use mathlib.Core.Bool.{true}
+use mathlib.Core.List.{List, [], _∷_}
+use Prim.Native.Nat.{ℕ, _≤_, _<_}
 use native.Mathlib.Nat.{mul-one}
 use native.Mathlib.Omega.{arith}
 use lib.ListN.{length, take}
 use lib.Seq.{length-take-le}
-use borrow.Author.Tests.{lt-ltb, eq-eqb, eqb-true, ne-eqb}
+use borrow.Author.Tests.{lt-ltb, eq-eqb, ne-eqb}
 use Rattle.laws.specs.Pick.{pick}
-use Rattle.laws.specs.Result.{ok, refused, violation}
+use Rattle.laws.specs.Result.{ok, refused}
 use Rattle.laws.proofs.Pick.{yes, no}
 use Rattle.laws.proofs.Tests.{and-both}
 use Rattle.wire.specs.declared.Role.{Role}
-use Rattle.wire.specs.declared.Role.the-variants as role
 use Rattle.wire.specs.declared.Message.{Message}
-use Rattle.wire.specs.declared.Message.the-variants as msg
-use Rattle.wire.specs.Message.{maySend, flagsAllowed, kindOfMessage, effectiveIncrement, shiftOf, secondByte, numberOf, bodyLength, header, writable, readMessage}
+use Rattle.wire.specs.Message.{maySend, flagsAllowed, kindOfMessage, effectiveIncrement, shiftOf, secondByte, numberOf, bodyLength, writable, readMessage}
 use Rattle.wire.proofs.Laws.{read-written}
-use Rattle.protocol.specs.Slot.{slotSize}
-use Rattle.protocol.specs.Message.{SessionMessage, data-of, increment-of, abort-of, close-of, acknowledgment-of, Scope, of-session, scope, numbered}
-use Rattle.protocol.specs.Judge.{Out, sent, opening}
-use Rattle.protocol.specs.Result.{bytesOf, bytesOfAll}
+use Rattle.protocol.specs.Message.{SessionMessage, data-of, increment-of, abort-of, close-of, acknowledgment-of, of-session, scope, numbered}
+use Rattle.protocol.specs.Judge.{sent}
+use Rattle.protocol.specs.Result.{bytesOfAll}
 use Rattle.protocol.specs.Observed.{Event, wrote, fromRole}
 use Rattle.protocol.proofs.Sound.{Fits, carried}
 use Rattle.history.specs.Account.{only, inScope, writtenMessage}

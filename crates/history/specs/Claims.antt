@@ -1,5 +1,5 @@
 -- What is claimed of every log: of every role, header number, queue and list of calls, refused ones included.
-use Prim.Native.Nat.{ℕ, suc, _+_, _-_, _≤_, _<_}
+use Prim.Native.Nat.{ℕ, _≤_, _<_}
 use mathlib.Core.Path.{_≡_}
 use mathlib.Core.Logic.{_↔_}
 use mathlib.Core.Bool.{Bool, true, false, not, _&&_, _||_}
@@ -8,7 +8,7 @@ use lib.ListN.{length, take}
 use lib.Dec.{eqb}
 use Rattle.laws.specs.Result.{Result, ok, refused, violation}
 use Rattle.laws.specs.Circle.{nearest}
-use Rattle.laws.specs.Runs.{fold, Every, gather, times}
+use Rattle.laws.specs.Runs.{Every, gather, times}
 use Rattle.wire.specs.declared.Message.{Message}
 use Rattle.wire.specs.declared.Message.the-variants as msg
 use Rattle.wire.specs.Message as wire
@@ -19,8 +19,8 @@ use Rattle.protocol.specs.Message.{numbered}
 use Rattle.protocol.specs.Connection.{exchanged}
 use Rattle.protocol.specs.Judge.{Report, served}
 use Rattle.protocol.specs.Observed.{Sending, silent, sending, isReady, anyLapse, dueData}
-use Rattle.history.specs.Log.{Call, turn, Entry}
-use Rattle.history.specs.Account.{Line, lineAfter, events, observed, blankAccount}
+use Rattle.history.specs.Log.{Call, start, open-session, put, finish, turn, grant, abort, close, ping, shutdown, lost, receive, Entry}
+use Rattle.history.specs.Account.{lineAfter, events, observed, blankAccount}
 
 -- ---- the words of the third demand
 
@@ -46,6 +46,21 @@ dataNumber (violation n) = []
 -- the numbers whose data messages an entry wrote
 abbrev pub dataWritten : Setup → Entry → List ℕ
 dataWritten s e = dataNumber (readMessage (s .role) (e .wrote))
+
+-- a turn is the only call that writes a data message
+abbrev pub isTurn : Call → Bool
+isTurn (start room) = false
+isTurn (open-session n) = false
+isTurn (put n bytes) = false
+isTurn (finish n) = false
+isTurn (turn room) = true
+isTurn (grant n amount room) = false
+isTurn (abort n partial room) = false
+isTurn (close n room) = false
+isTurn (ping cookie room) = false
+isTurn (shutdown room) = false
+isTurn lost = false
+isTurn (receive input room) = false
 
 abbrev pub has : ℕ → List ℕ → Bool
 has n [] = false
@@ -81,7 +96,7 @@ pub record Waits (s : Setup) (n : ℕ) (a b : List Entry) : Type 0 where
 
 abbrev pub waitingBytes : Sending → List ℕ
 waitingBytes silent = []
-waitingBytes (sending unsent bytes r finish) = bytes
+waitingBytes (sending unsent bytes r end) = bytes
 
 -- a turn that is not refused: the number served is the first ready one after the last one served; what is written is that
 -- session's data message and nothing else, with the first bytes waiting
@@ -111,5 +126,5 @@ pub record BoundedWaiting (s : Setup) (queue : ℕ) (log : List Entry) : Type 0 
   pub own-by-128 : (a b c : List Entry) → log ≡ a ++ (b ++ c) → (n : ℕ) → n < 128 → ready s n a ≡ true → Every (λ e. not (lapse s n e)) b
       → 128 ≤ length (gather (dataWritten s) b) → has n (gather (dataWritten s) b) ≡ true
   pub turns : (a c : List Entry) (e : Entry) (room : List ℕ) → log ≡ a ++ (e ∷ c) → e .call ≡ turn room → Turns s queue a e (length room)
-  pub only-turns-write-data : (a c : List Entry) (e : Entry) → log ≡ a ++ (e ∷ c) → ((room : List ℕ) → e .call ≡ turn room → ⊥) → dataWritten s e ≡ []
+  pub only-turns-write-data : (a c : List Entry) (e : Entry) → log ≡ a ++ (e ∷ c) → isTurn (e .call) ≡ false → dataWritten s e ≡ []
   pub never-14 : (a c : List Entry) (e : Entry) → log ≡ a ++ (e ∷ c) → e .answer ≡ refused 14 → ⊥

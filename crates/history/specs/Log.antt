@@ -8,7 +8,7 @@ use Rattle.laws.specs.Runs
 use Rattle.protocol.specs.declared.Connection.{Connection}
 use Rattle.protocol.specs.declared.Setup.{Setup}
 use Rattle.protocol.specs.Connection.{fresh, at}
-use Rattle.protocol.specs.Judge.{Report, Effect, Decision}
+use Rattle.protocol.specs.Judge.{Report, Decision}
 use Rattle.protocol.specs.Queue.{slot, withSlot, putSlot}
 use Rattle.protocol.specs.Call.{startRule, openRule, putRule, finishRule, turnRule, grantRule, abortRule, closeRule, pingRule, shutdownRule, lostRule, receiveRule}
 use Rattle.protocol.specs.Result.{Given, given, decided, ifTaken, turned, turnPayload, writtenBy}

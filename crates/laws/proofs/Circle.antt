@@ -137,3 +137,13 @@ pub nearest-unique : (test : ℕ → Bool) (i r : ℕ) → i < 128 → r < 128 �
 nearest-unique test i r hi hr e h =
     let f : Nearest test i r (nearest test i) = nearest-found test i r hi hr e in
     gap-inj i r (nearest test i) hi hr (nearest-lt test i hi) (omega (arith, f .near, h (nearest test i) (nearest-lt test i hi) (f .passes)))
+
+-- tests that agree on the circle have the same nearest number
+first-same : (f g : ℕ → Bool) → ((n : ℕ) → n < 128 → f n ≡ g n) → (i k : ℕ) → firstAfter f i k ≡ firstAfter g i k
+unfolding firstAfter pick
+first-same f g h i zero = refl
+first-same f g h i (suc k) = rw (h (following i) (following-lt i), first-same f g h (following i) k)
+
+pub nearest-same : (f g : ℕ → Bool) → ((n : ℕ) → n < 128 → f n ≡ g n) → (i : ℕ) → nearest f i ≡ nearest g i
+unfolding nearest
+nearest-same f g h i = first-same f g h i 128

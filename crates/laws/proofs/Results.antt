@@ -15,3 +15,6 @@ violation-not-ok e = let z : _≡_ {A = ℕ} 0 1 = cc in omega arith
 
 pub refused-same : {A : Type 0} {n m : ℕ} → _≡_ {A = Result A} (refused n) (refused m) → n ≡ m
 refused-same e = cc
+
+pub violation-not-refused : {A : Type 0} {n m : ℕ} → _≡_ {A = Result A} (violation n) (refused m) → ⊥
+violation-not-refused e = let z : _≡_ {A = ℕ} 0 1 = cc in omega arith

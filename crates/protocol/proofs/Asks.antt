@@ -1,17 +1,16 @@
 -- Each local call keeps what is observed of its session: one lemma for each call, about one session and no table.
-use mathlib.Core.Path.{_≡_, refl, sym, ap, _∙_, subst}
-use mathlib.Core.Bool.{Bool, true, false, not, _&&_, _||_, true≢false, false≢true}
+use mathlib.Core.Path.{_≡_, refl, sym, ap, _∙_}
+use mathlib.Core.Bool.{Bool, true, false, not, _&&_, true≢false, false≢true}
 use mathlib.Core.List.{List, [], _∷_, _++_}
-use Prim.Native.Nat.{ℕ, zero, suc, _+_, _-_, _≤_, _<_, min}
+use Prim.Native.Nat.{ℕ, _+_, _-_, _≤_}
 use native.Mathlib.Omega.{arith}
-use lib.ListN.{length, take, drop, length-append}
+use lib.ListN.{length, take, length-append}
 use lib.Seq.{take-at, length-take-le}
 use lib.Dec.{eqb, ltb}
-use borrow.Author.Tests.{ltb-false, eqb-false}
+use borrow.Author.Tests.{ltb-false}
 use Rattle.ration.specs.declared.Ration.{Ration}
 use Rattle.ration.specs.declared.Ration.the-variants as ration
-use Rattle.ration.specs.Ration.{inRange, allows, plus, minus, grantable}
-use Rattle.ration.proofs.Laws.{minus-in-range}
+use Rattle.ration.specs.Ration.{inRange, plus, grantable}
 use Rattle.wire.specs.declared.Role.{Role}
 use Rattle.wire.specs.declared.Role.the-variants as role
 use Rattle.wire.specs.Message.{isClient, isServer, onlyIf}
@@ -23,16 +22,14 @@ use Rattle.protocol.specs.declared.Sides.{Sides}
 use Rattle.protocol.specs.declared.Sides.the-variants as sides
 use Rattle.protocol.specs.declared.Session.{Session}
 use Rattle.protocol.specs.Slot.{slotSize}
-use Rattle.protocol.specs.Plan.{Plan, stop, check}
 use Rattle.protocol.specs.Queue.{putSlot}
 use Rattle.protocol.specs.declared.Outcome.the-variants as outcome
 use Rattle.protocol.specs.Message.{increment-of, abort-of, close-of}
 use Rattle.protocol.specs.Session.{sided, dropped, settled}
-use Rattle.protocol.specs.Receipt.{Taken}
 use Rattle.protocol.specs.Ask.{opened, openOf, openAsk, sends, putAsk, finishAsk, mayGrant, grantAsk, restored, aborting, abortOf, abortAsk, closeOf, closeAsk}
 use Rattle.laws.specs.Runs.{fold}
 use Rattle.protocol.specs.Observed
-use Rattle.protocol.specs.Observed.{opens, finishes, aborts, puts, Event, Sending, silent, sending, isReady, isEmpty, lapses, sendsAfter, withPut, ours, observe, established, permitsOurs}
+use Rattle.protocol.specs.Observed.{opens, finishes, aborts, puts, Sending, silent, sending, isReady, withPut, ours, observe, established, permitsOurs}
 use Rattle.laws.proofs.Tests.{and-both, or-first, or-second, not-false}
 use Rattle.protocol.proofs.Plans.{Takes}
 use Rattle.protocol.proofs.Views.{endsOf, sendsOf, look, Formed, seen-path}

@@ -1,7 +1,7 @@
 -- A message is taken exactly where 002 lets the far end send it now, and a turn exactly where its session is ready.
-use mathlib.Core.Path.{_≡_, refl, sym, ap, _∙_}
-use mathlib.Core.Bool.{Bool, true, false, not, _&&_, _||_, true≢false, false≢true}
-use mathlib.Core.List.{List, [], _∷_}
+use mathlib.Core.Path.{_≡_, refl, ap, _∙_}
+use mathlib.Core.Bool.{Bool, true, false, not, _&&_, true≢false, false≢true}
+use mathlib.Core.List.{List}
 use Prim.Native.Nat.{ℕ}
 use lib.ListN.{take}
 use Rattle.laws.proofs.Tests.{not-false, not-true}
@@ -9,7 +9,6 @@ use Rattle.ration.specs.declared.Ration.{Ration}
 use Rattle.ration.specs.Ration.{inRange, allows, plus}
 use Rattle.wire.specs.declared.Role.{Role}
 use Rattle.wire.specs.declared.Role.the-variants as role
-use Rattle.wire.specs.Message.{onlyIf}
 use Rattle.protocol.specs.declared.Side.{Side}
 use Rattle.protocol.specs.declared.Side.the-variants as side
 use Rattle.protocol.specs.declared.Before.the-variants as before
@@ -17,13 +16,12 @@ use Rattle.protocol.specs.declared.Sides.{Sides}
 use Rattle.protocol.specs.declared.Sides.the-variants as sides
 use Rattle.protocol.specs.declared.Outcome.the-variants as outcome
 use Rattle.protocol.specs.declared.Session.{Session}
-use Rattle.protocol.specs.Plan.{Plan, stop, check}
 use Rattle.protocol.specs.Message.{SessionMessage, data-of, increment-of, abort-of, close-of, acknowledgment-of}
 use Rattle.protocol.specs.Session.{afterData, follow, settled}
 use Rattle.protocol.specs.Receipt.{dataTo, incrementTo, abortTo, closeTo, aborted, arriving, other, acceptable, receipt}
 use Rattle.protocol.specs.Ask.{due, ready, readyIn, turnOf, turnAsk}
 use Rattle.protocol.specs.Connection.{placed}
-use Rattle.protocol.specs.Observed.{Ends, unused, ends, Seen, established, unfinished, permits, permitsTheirs, mayOpen, mayArrive}
+use Rattle.protocol.specs.Observed.{ends, Seen, established, permitsTheirs, mayOpen, mayArrive}
 use Rattle.protocol.proofs.Plans.{Exactly}
 use Rattle.protocol.proofs.Views.{endsOf, sendsOf, look}
 use Rattle.protocol.proofs.Receipts.{begins}

@@ -7,3 +7,4 @@ pub mod Asks
 pub mod Turns
 pub mod Receipts
 pub mod Exact
+pub mod Numbers

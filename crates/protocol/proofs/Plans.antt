@@ -1,5 +1,5 @@
 -- What a rule comes to: one law for each way through its checks, and what holds where it takes.
-use mathlib.Core.Path.{_≡_, refl}
+use mathlib.Core.Path.{_≡_}
 use mathlib.Core.Bool.{Bool, true, false}
 use Prim.Native.Nat.{ℕ}
 use Rattle.protocol.specs.Plan.{Plan, stop, check, take, settle, andThen}
@@ -34,3 +34,14 @@ pub takes-map : {A : Type 0} {P Q : A → Type 0} → ((a : A) → P a → Q a) 
 takes-map f (stop n) h = tt
 takes-map f (check b n p) h = λ e. takes-map f p (h e)
 takes-map f (take a) h = f a h
+
+-- what holds of every number that a rule may refuse with
+abbrev pub Stops : {A : Type 0} → (ℕ → Type 0) → Plan A → Type 0
+Stops P (stop n) = P n
+Stops P (check b n p) = P n × Stops P p
+Stops P (take a) = Unit {0}
+
+pub stops-then : {A B : Type 0} (P : ℕ → Type 0) (f : A → B) (p : Plan A) → Stops P p → Stops P (andThen f p)
+stops-then P f (stop n) h = h
+stops-then P f (check b n p) h = (h .0, stops-then P f p (h .1))
+stops-then P f (take a) h = tt

@@ -1,17 +1,16 @@
 -- Each receipt keeps what is observed of its session: one lemma for each message, about one session and no table.
 use mathlib.Core.Path.{_≡_, refl, sym, ap, _∙_, subst}
-use mathlib.Core.Bool.{Bool, true, false, not, _&&_, _||_, true≢false, false≢true}
+use mathlib.Core.Bool.{Bool, true, false, _||_, true≢false, false≢true}
 use mathlib.Core.List.{List, [], _∷_}
-use Prim.Native.Nat.{ℕ, _+_, _≤_}
+use Prim.Native.Nat.{ℕ, _+_}
 use native.Mathlib.Omega.{arith}
-use lib.ListN.{length, take}
-use lib.Dec.{ltb}
+use lib.ListN.{take}
 use borrow.Author.Tests.{ltb-true, lt-ltb}
 use Rattle.laws.specs.Runs.{fold}
 use Rattle.laws.proofs.Tests.{not-false, or-first}
 use Rattle.ration.specs.declared.Ration.{Ration}
 use Rattle.ration.specs.declared.Ration.the-variants as ration
-use Rattle.ration.specs.Ration.{inRange, allows, plus, minus}
+use Rattle.ration.specs.Ration.{inRange, plus}
 use Rattle.ration.proofs.Laws.{minus-in-range}
 use Rattle.wire.specs.declared.Role.{Role}
 use Rattle.wire.specs.declared.Role.the-variants as role
@@ -20,16 +19,13 @@ use Rattle.protocol.specs.declared.Side.{Side}
 use Rattle.protocol.specs.declared.Side.the-variants as side
 use Rattle.protocol.specs.declared.Sides.{Sides}
 use Rattle.protocol.specs.declared.Sides.the-variants as sides
-use Rattle.protocol.specs.declared.Outcome.{Outcome}
 use Rattle.protocol.specs.declared.Outcome.the-variants as outcome
 use Rattle.protocol.specs.declared.Session.{Session}
-use Rattle.protocol.specs.Slot.{slotSize}
-use Rattle.protocol.specs.Plan.{Plan, stop, check}
 use Rattle.protocol.specs.Message.{SessionMessage, data-of, increment-of, abort-of, close-of, acknowledgment-of}
 use Rattle.protocol.specs.Session.{afterData, follow, sided, settled, received as spent, incremented}
-use Rattle.protocol.specs.Receipt.{Taken, quietly, lately, replying, closed, aborted, dataTo, incrementTo, abortTo, closeTo, arriving, other, acceptable, accepted, receipt}
+use Rattle.protocol.specs.Receipt.{Taken, quietly, replying, aborted, dataTo, incrementTo, abortTo, closeTo, arriving, other, acceptable, accepted, receipt}
 use Rattle.protocol.specs.Ask.{sends, positive}
-use Rattle.protocol.specs.Observed.{Event, received, Sending, silent, sending, isReady, isEmpty, lapses, sendsAfter, endsAfter, inboundAfter, Ends, ends, ours, theirs, withIncrement, observe, established, permitsOurs}
+use Rattle.protocol.specs.Observed.{received, Sending, silent, sending, isReady, lapses, sendsAfter, endsAfter, inboundAfter, Ends, ends, ours, theirs, withIncrement, observe, established, permitsOurs}
 use Rattle.protocol.proofs.Plans.{Takes}
 use Rattle.protocol.proofs.Views.{endsOf, sendsOf, look, Formed, seen-path}
 use Rattle.protocol.proofs.Sound.{Sound}

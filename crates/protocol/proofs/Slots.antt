@@ -1,11 +1,11 @@
 -- A slot that is changed is the one that was meant, and no other: laws of the queue, from its definitions.
-use mathlib.Core.Path.{_≡_, refl, sym, ap, _∙_}
+use mathlib.Core.Path.{_≡_, sym, ap, _∙_}
 use mathlib.Core.Logic.{_≢_}
-use mathlib.Core.List.{List, [], _∷_, _++_}
+use mathlib.Core.List.{List, _++_}
 use Prim.Native.Nat.{ℕ, _+_, _-_, _*_, _≤_, _<_}
 use native.Mathlib.Decide.{decLt}
 use native.Mathlib.Omega.{arith}
-use lib.ListN.{length, take, drop, replicate, length-append, length-take, length-drop, length-replicate}
+use lib.ListN.{length, take, drop, length-append, length-take, length-drop, length-replicate}
 use lib.Seq.{take-at, drop-at, length-take-le, take-append-le, drop-append-le, drop-append-add, drop-drop, take-take}
 use Rattle.laws.proofs.Lists.{take-drop}
 use Rattle.protocol.specs.Slot.{slotSize, queueSize}

@@ -1,13 +1,13 @@
 -- A turn keeps what is observed of the session that it serves, and sends what is observed to wait.
 use mathlib.Core.Path.{_≡_, refl, sym, ap, _∙_}
-use mathlib.Core.Bool.{Bool, true, false, not, _&&_, _||_, true≢false, false≢true, and-true}
-use mathlib.Core.List.{List, [], _∷_, _++_}
-use Prim.Native.Nat.{ℕ, _+_, _-_, _≤_, min}
+use mathlib.Core.Bool.{Bool, true, false, not, _&&_, true≢false, false≢true, and-true}
+use mathlib.Core.List.{List, [], _∷_}
+use Prim.Native.Nat.{ℕ, _-_, _≤_, min}
 use native.Mathlib.Omega.{arith}
-use lib.ListN.{length, take, drop, length-take, length-drop}
+use lib.ListN.{length, take, drop, length-drop}
 use lib.Seq.{take-at, length-take-le}
-use lib.Dec.{eqb, leb}
-use borrow.Author.Tests.{le-leb, eqb-true}
+use lib.Dec.{eqb}
+use borrow.Author.Tests.{le-leb}
 use Rattle.laws.specs.Runs.{fold}
 use Rattle.laws.proofs.Lists.{take-drop}
 use Rattle.laws.proofs.Tests.{and-first, and-second, and-both}
@@ -25,13 +25,15 @@ use Rattle.protocol.specs.declared.Before.the-variants as before
 use Rattle.protocol.specs.declared.Sides.{Sides}
 use Rattle.protocol.specs.declared.Sides.the-variants as sides
 use Rattle.protocol.specs.declared.Session.{Session}
-use Rattle.protocol.specs.Slot.{slotSize}
 use Rattle.protocol.specs.Queue.{turnSlot}
+use Rattle.protocol.specs.Plan.{settle, andThen}
+use Rattle.protocol.specs.Receipt.{Taken}
+use Rattle.protocol.specs.Judge.{Effect}
 use Rattle.protocol.specs.Message.{data-of}
 use Rattle.protocol.specs.Session.{afterData}
-use Rattle.protocol.specs.Ask.{smaller, lastData, sends, sending as sendingOf, turnOf, turnAsk}
+use Rattle.protocol.specs.Ask.{smaller, lastData, sends, sending as sendingOf, turnOf, turnAsk, ready, readyIn}
 use Rattle.protocol.specs.Observed.{sending, withData, dueData, ours, mayOpen, permitsOurs, established}
-use Rattle.protocol.proofs.Plans.{Takes}
+use Rattle.protocol.proofs.Plans.{Takes, passes}
 use Rattle.protocol.proofs.Views.{endsOf, sendsOf, look, Formed, seen-path}
 use Rattle.protocol.proofs.Slots.{turn-length}
 use Rattle.protocol.proofs.Sound.{Sound}
@@ -192,3 +194,31 @@ turn-sends own far x s long = go (x .sides) refl
         sent false (x .outbound) ∙ sym (ap (λ (z : Sides). dueData (sendsOf far z (take (x .waiting) s) (x .outbound) (x .finish)) ∷ []) e)
     go (sides.Live side.Finished t) e = tt
     go (sides.Live side.Ended t) e = tt
+
+-- a turn that finds its session not ready is refused with 9
+pub turn-stops : {B : Type 0} (bad : ℕ → B) (good : Effect → B) (f : Taken → Effect) (own far : Ration) (x : Session) → ready x ≡ false
+    → settle bad good (andThen f (turnAsk own far x)) ≡ bad 9
+unfolding turnAsk ready settle
+turn-stops bad good f own far x h = go (x .sides) h
+  where
+    go : (z : Sides) → readyIn x z ≡ false → settle bad good (andThen f (turnOf own far x z)) ≡ bad 9
+    go sides.Idle e = refl
+    go (sides.Opening b) e = absurd (true≢false e)
+    go (sides.Live side.Open t) e = rw e
+    go (sides.Live side.Finished t) e = refl
+    go (sides.Live side.Ended t) e = refl
+
+-- and one that finds it ready is taken, with all that holds where it takes
+pub turn-goes : {B : Type 0} (bad : ℕ → B) (good : Effect → B) (f : Taken → Effect) (own far : Ration) (x : Session) (P : Taken → Type 0) → ready x ≡ true
+    → Takes P (turnAsk own far x) → (t : Taken) × (settle bad good (andThen f (turnAsk own far x)) ≡ good (f t)) × P t
+unfolding turnAsk ready settle
+turn-goes bad good f own far x P h k = go (x .sides) h k
+  where
+    go : (z : Sides) → readyIn x z ≡ true → Takes P (turnOf own far x z) → (t : Taken) × (settle bad good (andThen f (turnOf own far x z)) ≡ good (f t)) × P t
+    go sides.Idle e k = absurd (false≢true e)
+    go (sides.Opening b) e k = (_, refl, k)
+    go (sides.Live side.Open t) e k =
+        let p = sendingOf x false t (x .outbound) (x .inbound) (smaller (x .waiting) (x .outbound)) in
+        (_, passes bad good 9 (andThen f p) (ap not e), k (ap not e))
+    go (sides.Live side.Finished t) e k = absurd (false≢true e)
+    go (sides.Live side.Ended t) e k = absurd (false≢true e)

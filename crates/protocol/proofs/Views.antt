@@ -1,31 +1,27 @@
 -- What the state holds of a session number, in the words of what is observed of it, and that both call the same sessions ready.
-use mathlib.Core.Path.{_≡_, refl, sym, ap, _∙_}
+use mathlib.Core.Path.{_≡_, refl, sym}
 use mathlib.Core.Bool.{Bool, true, false, not, _&&_, _||_}
-use mathlib.Core.List.{List, [], _∷_, _++_, map}
-use Prim.Native.Nat.{ℕ, zero, suc, _+_, _≤_, _<_}
+use mathlib.Core.List.{List, [], _∷_}
+use Prim.Native.Nat.{ℕ, zero, suc, _≤_}
 use native.Mathlib.Omega.{arith}
 use lib.ListN.{length, take}
 use lib.Dec.{eqb, leb, eqb·suc-zero}
-use borrow.Author.Tests.{leb-true, le-leb, eqb-true, eq-eqb}
+use borrow.Author.Tests.{leb-true, le-leb}
 use Rattle.laws.specs.Pick.{pick}
-use Rattle.laws.specs.Runs.{fold}
 use Rattle.laws.proofs.Tests.{and-first, and-second, and-both}
 use Rattle.ration.specs.declared.Ration.{Ration}
-use Rattle.ration.specs.declared.Ration.the-variants as ration
 use Rattle.ration.specs.Ration.{inRange}
 use Rattle.wire.specs.declared.Role.{Role}
 use Rattle.wire.specs.Message.{onlyIf}
-use Rattle.protocol.specs.declared.Side.{Side}
 use Rattle.protocol.specs.declared.Side.the-variants as side
 use Rattle.protocol.specs.declared.Before.the-variants as before
 use Rattle.protocol.specs.declared.Sides.{Sides}
 use Rattle.protocol.specs.declared.Sides.the-variants as sides
 use Rattle.protocol.specs.declared.Session.{Session}
 use Rattle.protocol.specs.Slot.{slotSize}
-use Rattle.protocol.specs.Message.{SessionMessage}
 use Rattle.protocol.specs.Ask.{sends, positive, due, ready, readyIn}
 use Rattle.protocol.specs.Connection.{placed, sessionFormed}
-use Rattle.protocol.specs.Observed.{Event, wrote, Sending, silent, sending, isEmpty, isReady, Ends, unused, ends, Seen, observe}
+use Rattle.protocol.specs.Observed.{Sending, silent, sending, isEmpty, isReady, Ends, unused, ends, Seen}
 
 abbrev pub endsOf : Sides → Ends
 endsOf sides.Idle = unused

@@ -1,7 +1,7 @@
 -- What holds of every message that the reader gives, whatever stands in its input: its fields fit, and its sender may send it.
 use mathlib.Core.Path.{_≡_, refl, sym, ap, _∙_, subst}
 use mathlib.Core.Bool.{Bool, true, false}
-use mathlib.Core.List.{List, [], _∷_}
+use mathlib.Core.List.{List}
 use Prim.Native.Nat.{ℕ, _+_, _*_, _/_, _%_, _<_}
 use native.Mathlib.Omega.{arith}
 use lib.ListN.{length, getD, take}
@@ -21,7 +21,7 @@ use Rattle.wire.specs.FirstByte.{kindOf}
 use Rattle.wire.specs.Layout.{layout, fixed, message, digits, initialRation}
 use Rattle.wire.specs.Message.{flagsAllowed, maySend, allowed, typed, parseHeader, bodyLength, withBody, readMessage, secondByte, numberOf, kindOfMessage}
 use Rattle.wire.specs.Connection.{connectionLayout, parseConnectionHeader, readConnectionHeader}
-use Rattle.wire.proofs.Inverse.{Passed, passed}
+use Rattle.wire.proofs.Inverse.{passed}
 
 -- ---- bits
 
@@ -144,3 +144,42 @@ header-number s n q = go (ltb (length s) 8) q
     go : (b : Bool) → pick b (refused 10) (parseConnectionHeader (take 8 s)) ≡ ok n → n < 65_536
     go true p = absurd (refused-not-ok p)
     go false p = number (fixed connectionLayout (take 8 s)) p
+
+-- ---- what stands too short is refused with 10, and nothing else is refused
+
+abbrev pub ShortOnly : {A : Type 0} → Result A → Type 0
+ShortOnly (ok a) = Unit {0}
+ShortOnly (refused n) = n ≡ 10
+ShortOnly (violation n) = Unit {0}
+
+either : {A : Type 0} (p q : Result A) (b : Bool) → ShortOnly p → ShortOnly q → ShortOnly (pick b p q)
+unfolding pick
+either p q true hp hq = hp
+either p q false hp hq = hq
+
+parse-short : (from : Role) (h : List ℕ) (n : Named) → ShortOnly (typed from h n)
+unfolding typed allowed
+parse-short from h (Known k) =
+    let m = message k h in
+    let flags = either (ok m) (violation 24) (flagsAllowed from m) tt tt in
+    let sender = either (pick (flagsAllowed from m) (ok m) (violation 24)) (violation 23) (maySend from k) flags tt in
+    either (allowed from k m) (violation 21) (fixed (layout k) h) sender tt
+parse-short from h Unknown = tt
+
+pub message-short : (from : Role) (s : List ℕ) → ShortOnly (readMessage from s)
+unfolding readMessage parseHeader
+message-short from s =
+    let r = typed from (take 4 s) (kindOf (getD (take 4 s) 0 0)) in
+    either (refused 10) (withBody (length s) r) (ltb (length s) 4) refl (body r (parse-short from (take 4 s) (kindOf (getD (take 4 s) 0 0))))
+  where
+    body : (r : Result Message) → ShortOnly r → ShortOnly (withBody (length s) r)
+    body (ok m) h = either (ok m) (refused 10) (leb (4 + bodyLength m) (length s)) tt refl
+    body (refused n) h = h
+    body (violation n) h = tt
+
+pub header-short : (s : List ℕ) → ShortOnly (readConnectionHeader s)
+unfolding readConnectionHeader parseConnectionHeader
+header-short s =
+    let n = digits initialRation connectionLayout (take 8 s) 0 in
+    either (refused 10) (parseConnectionHeader (take 8 s)) (ltb (length s) 8) refl
+    (either (ok n) (violation 22) (fixed connectionLayout (take 8 s)) tt tt)

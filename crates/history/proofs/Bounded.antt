@@ -1,0 +1,245 @@
+-- The third demand, whole: bounded-waiting, from the round-robin law and the ways of a turn.
+use mathlib.Core.Path.{_≡_, refl, sym, ap, _∙_, subst}
+use mathlib.Core.Bool.{Bool, true, false}
+use mathlib.Core.List.{List, [], _∷_, _++_}
+use Prim.Native.Nat.{ℕ, _<_}
+use native.Mathlib.Omega.{arith}
+use lib.ListN.{length, take}
+use Rattle.laws.specs.Circle.{nearest}
+use Rattle.laws.specs.Runs.{run, logOf}
+use Rattle.laws.specs.Result.{ok, refused}
+use Rattle.laws.proofs.Circle.{nearest-lt, nearest-found, nearest-same}
+use Rattle.laws.proofs.Runs.{log-split, Split}
+use Rattle.laws.proofs.Results.{ok-same, refused-same, refused-not-ok}
+use Rattle.laws.proofs.Tests.{true-false}
+use Rattle.wire.specs.Message as wire
+use Rattle.wire.specs.Message.{readMessage}
+use Rattle.protocol.specs.declared.Setup.{Setup}
+use Rattle.protocol.specs.Queue.{slot}
+use Rattle.protocol.specs.Message.{numbered}
+use Rattle.protocol.specs.Receipt.{Taken}
+use Rattle.protocol.specs.Ask as ask
+use Rattle.protocol.specs.Connection.{at, exchanged, farStart}
+use Rattle.protocol.specs.Judge.{Report, served, Out, Decision, refuse, violate, accept, with-session}
+use Rattle.protocol.specs.Call.{nextReady}
+use Rattle.protocol.specs.Result.{bytesOfAll}
+use Rattle.protocol.specs.Observed.{Sending, isReady, dueData}
+use Rattle.protocol.proofs.Views.{ready-look}
+use Rattle.history.specs.Log.{Call, turn, State, Entry, decide, payloadOf, nextBy, outBy, next, out, made}
+use Rattle.history.specs.Log as log
+use Rattle.history.specs.Account.{Line, Account, observed}
+use Rattle.history.specs.Claims.{ready, dataNumber, dataWritten, isTurn, lastServed, waitingBytes, Serves, NothingReady, Turns, BoundedWaiting}
+use Rattle.history.proofs.Good.{Ok, setupOf, lineOf, holds, one}
+use Rattle.history.proofs.Receives.{GoodBy}
+use Rattle.history.proofs.Simulation.{observed-is, run-made, made-ok, own-ok, same-setup, decide-good, next-ok, queue-refused, queue-violated}
+use Rattle.history.proofs.Fair.{nothing-data, error-data, ready-is, waits-log, own-log}
+use Rattle.history.proofs.Never.{never-14}
+use Rattle.history.proofs.Turning.{Clear, Way, early, none, taken, way, due-bytes, waiting-look, turn-bytes, last-run}
+
+-- ---- of one decision
+
+module _ (s : State) (k : Call) where
+  quiet-by : (d : Decision) → GoodBy s k d → isTurn k ≡ false → dataWritten (setupOf (s .connection)) (outBy s k d) ≡ []
+  quiet-by (refuse n) g h = nothing-data (setupOf (s .connection) .role)
+  quiet-by (violate b) g h =
+      ap (λ (os : List Out). dataNumber (readMessage (setupOf (s .connection) .role) (bytesOfAll (payloadOf (s .queue) k (violate b)) os))) (g .0)
+      ∙ error-data (setupOf (s .connection) .role) (payloadOf (s .queue) k (violate b)) (s .connection .stage) (s .connection .own)
+  quiet-by (accept e) g h = g .by-turn ∙ ap (λ (b : Bool). one b (e .number)) h
+
+  long-by : (d : Decision) → GoodBy s k d → length (nextBy s k d .queue) ≡ length (s .queue)
+  long-by (refuse n) g = ap length (queue-refused (s .connection) (s .queue) k n)
+  long-by (violate b) g = ap length (queue-violated (s .connection) (s .queue) k b)
+  long-by (accept e) g = g .long
+
+module _ (setup : Setup) where
+  -- only a turn writes a data message
+  quiet-out : (s : State) (k : Call) → Ok setup s → isTurn k ≡ false → dataWritten setup (out s k) ≡ []
+  unfolding out
+  quiet-out s k o h =
+      subst (λ (z : Setup). dataWritten z (outBy s k (decide (s .connection) (s .queue) k)) ≡ []) (same-setup setup s o)
+      (quiet-by s k (decide (s .connection) (s .queue) k) (decide-good s (own-ok setup s o) k) h)
+
+  -- a turn that is taken writes that of the number served
+  turn-out : (s : State) (room : List ℕ) → Ok setup s → (n : ℕ) (t : Taken)
+      → decide (s .connection) (s .queue) (turn room) ≡ accept (with-session (s .connection) n n (served n) t) → dataWritten setup (out s (turn room)) ≡ n ∷ []
+  unfolding out
+  turn-out s room o n t e =
+      let g : GoodBy s (turn room) (accept (with-session (s .connection) n n (served n) t)) =
+      subst (λ (d : Decision). GoodBy s (turn room) d) e (decide-good s (own-ok setup s o) (turn room)) in
+      ap (λ (d : Decision). dataWritten setup (outBy s (turn room) d)) e
+      ∙ ap (λ (z : Setup). dataWritten z (outBy s (turn room) (accept (with-session (s .connection) n n (served n) t)))) (sym (same-setup setup s o)) ∙ g .by-turn
+
+  -- the queue keeps its length
+  run-long : (s : State) (ks : List Call) → Ok setup s → length (run next out s ks .queue) ≡ length (s .queue)
+  unfolding run next
+  run-long s [] o = refl
+  run-long s (k ∷ ks) o =
+      run-long (next s k) ks (next-ok setup s k o) ∙ long-by s k (decide (s .connection) (s .queue) k) (decide-good s (own-ok setup s o) k)
+
+-- ---- of one turn, after any calls
+
+module _ (setup : Setup) (hh : setup .header < 65_536) (queue : List ℕ) (ks : List Call) (room : List ℕ) where
+  o : Ok setup (log.run setup queue ks)
+  o = run-made setup hh queue ks
+
+  -- the state's ready numbers are the log's
+  told : (n : ℕ) → n < 128 → ask.ready (at (log.run setup queue ks .connection) n) ≡ ready setup n (log.log setup queue ks)
+  told n h =
+      let st = log.run setup queue ks in
+      ready-look (farStart (st .connection)) (at (st .connection) n) (slot n (st .queue)) (o .fits n h) ∙ sym (ready-is setup hh queue ks n h)
+
+  last-told : lastServed setup (log.log setup queue ks) ≡ log.run setup queue ks .connection .last
+  last-told = last-run setup (made setup queue) ks (made-ok setup hh queue)
+
+  first : nextReady (log.run setup queue ks .connection) ≡ nearest (λ n. ready setup n (log.log setup queue ks)) (lastServed setup (log.log setup queue ks))
+  first =
+      nearest-same (λ n. ask.ready (at (log.run setup queue ks .connection) n)) (λ n. ready setup n (log.log setup queue ks)) told (log.run setup queue ks .connection .last)
+      ∙ ap (nearest (λ n. ready setup n (log.log setup queue ks))) (sym last-told)
+
+  inside : nextReady (log.run setup queue ks .connection) < 128
+  inside = nearest-lt (λ n. ask.ready (at (log.run setup queue ks .connection) n)) (log.run setup queue ks .connection .last) (o .last)
+
+  account : (n : ℕ) → n < 128 → observed setup n (log.log setup queue ks) .seen .sends ≡ holds (log.run setup queue ks) n .sends
+  account n h = ap (λ (a : Account). a .seen .sends) (observed-is setup hh queue ks n h)
+
+  abbrev Here : Type 0
+  Here = Way (log.run setup queue ks) (length room) (decide (log.run setup queue ks .connection) (log.run setup queue ks .queue) (turn room))
+
+  here : Here
+  here = way setup (log.run setup queue ks) o room
+
+  answers : (d : Decision) → decide (log.run setup queue ks .connection) (log.run setup queue ks .queue) (turn room) ≡ d
+      → out (log.run setup queue ks) (turn room) .answer ≡ outBy (log.run setup queue ks) (turn room) d .answer
+  unfolding out
+  answers d e = ap (λ (z : Decision). outBy (log.run setup queue ks) (turn room) z .answer) e
+
+  written : (d : Decision) → decide (log.run setup queue ks .connection) (log.run setup queue ks .queue) (turn room) ≡ d
+      → out (log.run setup queue ks) (turn room) .wrote ≡ outBy (log.run setup queue ks) (turn room) d .wrote
+  unfolding out
+  written d e = ap (λ (z : Decision). outBy (log.run setup queue ks) (turn room) z .wrote) e
+
+  serves-first : ask.ready (at (log.run setup queue ks .connection) (nextReady (log.run setup queue ks .connection))) ≡ true → (t : Taken)
+      → t .sent ≡ dueData (holds (log.run setup queue ks) (nextReady (log.run setup queue ks .connection)) .sends) ∷ []
+      → decide (log.run setup queue ks .connection) (log.run setup queue ks .queue) (turn room)
+      ≡ accept (with-session (log.run setup queue ks .connection) (nextReady (log.run setup queue ks .connection)) (nextReady (log.run setup queue ks .connection)) (served (nextReady (log.run setup queue ks .connection))) t)
+      → Serves setup (log.log setup queue ks) (out (log.run setup queue ks) (turn room)) (nextReady (log.run setup queue ks .connection))
+  serves-first r t q e =
+      let st = log.run setup queue ks in
+      let n = nextReady (st .connection) in
+      let v = holds st n .sends in
+      let rv : isReady (holds (log.run setup queue ks) (nextReady (log.run setup queue ks .connection)) .sends) ≡ true =
+      sym (ready-look (farStart (st .connection)) (at (st .connection) n) (slot n (st .queue)) (o .fits n inside)) ∙ r in
+      record {
+        first-ready = first;
+        is-ready = sym (told n inside) ∙ r;
+        message =
+            written (accept (with-session (st .connection) n n (served n) t)) e ∙ turn-bytes st n n t v q
+            ∙ ap (λ (b : List ℕ). wire.header (numbered n (dueData v)) ++ b)
+            (due-bytes n (at (st .connection) n .waiting) (slot n (st .queue)) v rv (waiting-look (farStart (st .connection)) (at (st .connection) n) (slot n (st .queue)) rv) (o .fits n inside))
+            ∙ ap (λ (w : Sending). wire.header (numbered n (dueData w)) ++ take (wire.bodyLength (numbered n (dueData w))) (waitingBytes w)) (sym (account n inside));
+      }
+
+  served-one : Here → (r : Report) → out (log.run setup queue ks) (turn room) .answer ≡ ok r
+      → (k : ℕ) × (r ≡ served k) × (dataWritten setup (out (log.run setup queue ks) (turn room)) ≡ k ∷ []) × Serves setup (log.log setup queue ks) (out (log.run setup queue ks) (turn room)) k
+  served-one (early j h1 h2 e) r a = absurd (refused-not-ok (sym (answers (refuse j) e) ∙ a))
+  served-one (none cl h e) r a = absurd (refused-not-ok (sym (answers (refuse 9) e) ∙ a))
+  served-one (taken cl h t q e) r a =
+      let st = log.run setup queue ks in
+      let n = nextReady (st .connection) in
+      (n, ok-same (sym a ∙ answers _ e), turn-out setup st room o n t e, serves-first h t q e)
+
+  -- where a turn is refused with 9, nothing is ready
+  nothing-ready : Here → out (log.run setup queue ks) (turn room) .answer ≡ refused 9 → NothingReady setup (length queue) (log.log setup queue ks) (length room)
+  nothing-ready (early j h1 h2 e) a = absurd (h1 (refused-same (sym (answers (refuse j) e) ∙ a)))
+  nothing-ready (taken cl h t q e) a = absurd (refused-not-ok (sym a ∙ answers _ e))
+  nothing-ready (none cl h e) a =
+      let st = log.run setup queue ks in
+      let line : observed setup 0 (log.log setup queue ks) .line ≡ lineOf (log.run setup queue ks .connection) = ap (λ (z : Account). z .line) (observed-is setup hh queue ks 0 (omega arith)) in
+      record {
+        not-over = ap (λ (l : Line). l .over) line ∙ cl .not-over;
+        up = ap (λ (l : Line). exchanged (l .stage)) line ∙ cl .up;
+        roomy = cl .roomy;
+        whole-queue = sym (run-long setup (made setup queue) ks (made-ok setup hh queue)) ∙ cl .whole-queue;
+        none = λ n hn. sym (told n hn) ∙ not-ready n hn (ask.ready (at (st .connection) n)) refl;
+      }
+    where
+      not-ready : (n : ℕ) → n < 128 → (b : Bool) → ask.ready (at (log.run setup queue ks .connection) n) ≡ b → ask.ready (at (log.run setup queue ks .connection) n) ≡ false
+      not-ready n hn false e = e
+      not-ready n hn true e =
+          absurd (true-false (nearest-found (λ i. ask.ready (at (log.run setup queue ks .connection) i)) (log.run setup queue ks .connection .last) n (o .last) hn e .passes) h)
+
+  -- and where nothing is ready, a turn is refused with 9
+  clear : NothingReady setup (length queue) (log.log setup queue ks) (length room) → Clear (log.run setup queue ks) (length room)
+  clear z =
+      let line : observed setup 0 (log.log setup queue ks) .line ≡ lineOf (log.run setup queue ks .connection) = ap (λ (a : Account). a .line) (observed-is setup hh queue ks 0 (omega arith)) in
+      record {
+        not-over = sym (ap (λ (l : Line). l .over) line) ∙ z .not-over;
+        up = sym (ap (λ (l : Line). exchanged (l .stage)) line) ∙ z .up;
+        roomy = z .roomy;
+        whole-queue = run-long setup (made setup queue) ks (made-ok setup hh queue) ∙ z .whole-queue;
+      }
+
+  says-9 : Here → NothingReady setup (length queue) (log.log setup queue ks) (length room) → out (log.run setup queue ks) (turn room) .answer ≡ refused 9
+  says-9 (early j h1 h2 e) z = absurd (h2 (clear z))
+  says-9 (none cl h e) z = answers (refuse 9) e
+  says-9 (taken cl h t q e) z = absurd (true-false (sym (told (nextReady (log.run setup queue ks .connection)) inside) ∙ h) (z .none (nextReady (log.run setup queue ks .connection)) inside))
+
+  turns-calls : Turns setup (length queue) (log.log setup queue ks) (out (log.run setup queue ks) (turn room)) (length room)
+  turns-calls = record { served-one = served-one here; refused-9 = (nothing-ready here, says-9 here) }
+
+-- ---- of every entry of a log
+
+module _ (setup : Setup) (hh : setup .header < 65_536) (queue : List ℕ) where
+  -- an entry comes from a call, after those before it
+  record At (a : List Entry) (e : Entry) : Type 0 where
+    before : List Call
+    call : Call
+    log-before : log.log setup queue before ≡ a
+    entry : out (log.run setup queue before) call ≡ e
+
+  entry-at : (ks : List Call) (a c : List Entry) (e : Entry) → log.log setup queue ks ≡ a ++ (e ∷ c) → At a e
+  unfolding logOf
+  entry-at ks a c e h = go (log-split next out (made setup queue) ks a (e ∷ c) h)
+    where
+      first-of : (s : State) (l : List Call) → logOf next out s l ≡ e ∷ c → (k : Call) × (out s k ≡ e)
+      first-of s [] z = absurd (let w : _≡_ {A = ℕ} 0 1 = cc in omega arith)
+      first-of s (k ∷ l) z = (k, cc)
+
+      go : Split next out (made setup queue) a (e ∷ c) → At a e
+      go x =
+          let y = first-of (log.run setup queue (x .early)) (x .later) (x .second) in
+          record { before = x .early; call = y .0; log-before = x .first; entry = y .1 }
+
+  called : (s : State) (k : Call) → out s k .call ≡ k
+  unfolding out
+  called s k = refl
+
+  turns-log : (a : List Entry) (e : Entry) (room : List ℕ) → At a e → e .call ≡ turn room → Turns setup (length queue) a e (length room)
+  turns-log a e room x h =
+      let s = log.run setup queue (x .before) in
+      let k : x .call ≡ turn room = sym (called s (x .call)) ∙ ap (λ (z : Entry). z .call) (x .entry) ∙ h in
+      let same : out (log.run setup queue (x .before)) (turn room) ≡ e = ap (out s) (sym k) ∙ x .entry in
+      subst (λ (l : List Entry). Turns setup (length queue) l e (length room)) (x .log-before)
+      (subst (λ (z : Entry). Turns setup (length queue) (log.log setup queue (x .before)) z (length room)) same
+      (turns-calls setup hh queue (x .before) room))
+
+  quiet-log : (a : List Entry) (e : Entry) → At a e → isTurn (e .call) ≡ false → dataWritten setup e ≡ []
+  quiet-log a e x h =
+      let s = log.run setup queue (x .before) in
+      let k : isTurn (x .call) ≡ false = ap isTurn (sym (called s (x .call)) ∙ ap (λ (z : Entry). z .call) (x .entry)) ∙ h in
+      ap (dataWritten setup) (sym (x .entry)) ∙ quiet-out setup s (x .call) (run-made setup hh queue (x .before)) k
+
+  never-log : (a : List Entry) (e : Entry) → At a e → e .answer ≡ refused 14 → ⊥
+  never-log a e x h =
+      never-14 setup (log.run setup queue (x .before)) (x .call) (run-made setup hh queue (x .before)) (ap (λ (z : Entry). z .answer) (x .entry) ∙ h)
+
+  -- nobody waits for ever: of every role, header number, queue and list of calls
+  pub bounded-waiting : (calls : List Call) → BoundedWaiting setup (length queue) (log.log setup queue calls)
+  bounded-waiting calls =
+      record {
+        waits = waits-log setup hh queue calls;
+        own-by-128 = own-log setup hh queue calls;
+        turns = λ a c e room z h. turns-log a e room (entry-at calls a c e z) h;
+        only-turns-write-data = λ a c e z h. quiet-log a e (entry-at calls a c e z) h;
+        never-14 = λ a c e z h. never-log a e (entry-at calls a c e z) h;
+      }
