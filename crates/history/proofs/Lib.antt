@@ -10,3 +10,4 @@ pub mod Fair
 pub mod Turning
 pub mod Never
 pub mod Bounded
+pub mod Leaves

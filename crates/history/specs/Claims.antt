@@ -16,10 +16,11 @@ use Rattle.wire.specs.Message.{readMessage}
 use Rattle.protocol.specs.declared.Setup.{Setup}
 use Rattle.protocol.specs.Slot.{queueSize, turnRoom}
 use Rattle.protocol.specs.Message.{numbered}
-use Rattle.protocol.specs.Connection.{exchanged}
-use Rattle.protocol.specs.Judge.{Report, served}
+use Rattle.protocol.specs.Connection.{line-lost, exchanged, ended}
+use Rattle.protocol.specs.Judge.{Report, served, errorAfter}
+use Rattle.protocol.specs.Result.{bytesOfAll}
 use Rattle.protocol.specs.Observed.{Sending, silent, sending, isReady, anyLapse, dueData}
-use Rattle.history.specs.Log.{Call, start, open-session, put, finish, turn, grant, abort, close, ping, shutdown, lost, receive, Entry}
+use Rattle.history.specs.Log.{Call, start, open-session, put, finish, turn, grant, abort, close, ping, shutdown, lost, receive, State, Entry, decide, gives, next, out}
 use Rattle.history.specs.Account.{lineAfter, events, observed, blankAccount}
 
 -- ---- the words of the third demand
@@ -128,3 +129,15 @@ pub record BoundedWaiting (s : Setup) (queue : ℕ) (log : List Entry) : Type 0 
   pub turns : (a c : List Entry) (e : Entry) (room : List ℕ) → log ≡ a ++ (e ∷ c) → e .call ≡ turn room → Turns s queue a e (length room)
   pub only-turns-write-data : (a c : List Entry) (e : Entry) → log ≡ a ++ (e ∷ c) → isTurn (e .call) ≡ false → dataWritten s e ≡ []
   pub never-14 : (a c : List Entry) (e : Entry) → log ≡ a ++ (e ∷ c) → e .answer ≡ refused 14 → ⊥
+
+-- ---- what a call that is not taken leaves, of every state and not only of a history
+
+pub record RefusedLeaves (s : State) (k : Call) : Type 0 where
+  -- below 20 nothing changes and nothing is written
+  pub refusal : (n : ℕ) → out s k .answer ≡ refused n → (next s k ≡ s) × (out s k .wrote ≡ [])
+  -- from 20 up only over and outcomes change, and Error, or header and Error, is written
+  pub violated : (n : ℕ) → out s k .answer ≡ violation n
+      → (next s k .connection ≡ ended line-lost (s .connection)) × (next s k .queue ≡ s .queue)
+      × (out s k .wrote ≡ bytesOfAll [] (errorAfter (s .connection .stage) (s .connection .own)))
+  -- and no input is used
+  pub unused : ((r : Report) → out s k .answer ≡ ok r → ⊥) → gives s k (decide (s .connection) (s .queue) k) .used ≡ 0
