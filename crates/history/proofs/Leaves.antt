@@ -111,9 +111,11 @@ module _ (s : State) (k : Call) where
       → (nextBy s k d .connection ≡ ended line-lost (s .connection)) × (nextBy s k d .queue ≡ s .queue)
       × (outBy s k d .wrote ≡ bytesOfAll [] (errorAfter (s .connection .stage) (s .connection .own)))
   violated-by (refuse j) h n e = absurd (violation-not-refused (sym e))
-  violated-by (violate b) h n e =
-      (ap (λ (z : Cause). ended z (s .connection)) (h .0), queue-violated (s .connection) (s .queue) k b,
-      ap (λ (p : List ℕ). bytesOfAll p (b .reply)) (no-payload (s .queue) k b) ∙ ap (bytesOfAll []) (h .1))
+  violated-by (violate b) h n e = (
+    ap (λ (z : Cause). ended z (s .connection)) (h .0),
+    queue-violated (s .connection) (s .queue) k b,
+    ap (λ (p : List ℕ). bytesOfAll p (b .reply)) (no-payload (s .queue) k b) ∙ ap (bytesOfAll []) (h .1),
+  )
   violated-by (accept x) h n e = absurd (violation-not-ok (sym e))
 
   unused-by : (d : Decision) → ((r : Report) → outBy s k d .answer ≡ ok r → ⊥) → gives s k d .used ≡ 0
