@@ -1,0 +1,2 @@
+-- The laws of the reader of captures.
+pub mod Steps
