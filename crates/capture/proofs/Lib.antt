@@ -1,2 +1,3 @@
 -- The laws of the reader of captures.
 pub mod Steps
+pub mod Laws

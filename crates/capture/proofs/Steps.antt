@@ -18,11 +18,15 @@ module _ (from : Role) (s : List ℕ) (place : ℕ) where
   unfolding messageAt
   past-end h = sym (yes _ _ _ (lt-ltb _ _ h))
 
-  pub within : {r : Result Message} → place ≤ length s → r ≡ readMessage from (take (length s - place) (drop place s)) → r ≡ messageAt from s place
+  pub within : place ≤ length s → readMessage from (drop place s) ≡ messageAt from s place
   unfolding messageAt
-  within h e =
+  within h = sym (no _ _ _ (le-ltb _ _ h))
+
+  -- the same of the slice that starts at the place
+  pub in-slice : {r : Result Message} → place ≤ length s → r ≡ readMessage from (take (length s - place) (drop place s)) → r ≡ messageAt from s place
+  in-slice h e =
       let all : take (length s - place) (drop place s) ≡ drop place s = take-all (length s - place) (drop place s) (simp length-drop (omega arith)) in
-      e ∙ ap (readMessage from) all ∙ sym (no _ _ _ (le-ltb _ _ h))
+      e ∙ ap (readMessage from) all ∙ within h
 
   -- what was read, with the place after it
   pub stepped : {r : Result Message} → r ≡ messageAt from s place → (r, placeAfter place r) ≡ stepAt from s place

@@ -1,6 +1,6 @@
 use mathlib.Core.Path.{_≡_, ap, sym, _∙_}
 use borrow.Author.Needs.{needs}
-use Rattle.capture.proofs.Steps.{past-end, within, stepped}
+use Rattle.capture.proofs.Steps.{past-end, in-slice, stepped}
 use Rattle.wire_read.specs.Answer.{readAs}
 use Rattle.capture.proofs.next_at.Statement.{statement}
 use Rattle.capture.proofs.next_at.Tie as tie
@@ -62,21 +62,21 @@ returns-2 : tie.Need-returns-2
 returns-2 c =
     rw (c .body-length .ensures)
     (stepped _ _ _
-    (within _ _ _ (c .before .before .before .before .before .before .if1 .left)
+    (in-slice _ _ _ (c .before .before .before .before .before .before .if1 .left)
     (ap readAs (sym (c .before .before .message .given .1)) ∙ c .before .before .before .before .read-message .ensures)))
 
 -- src/lib.rt:29:1
 returns-3 : tie.Need-returns-3
 returns-3 c =
     stepped _ _ _
-    (within _ _ _ (c .before .before .before .before .if1 .left)
+    (in-slice _ _ _ (c .before .before .before .before .if1 .left)
     (ap readAs (sym (c .enum-told .given .1)) ∙ c .before .before .read-message .ensures))
 
 -- src/lib.rt:29:1
 returns-4 : tie.Need-returns-4
 returns-4 c =
     stepped _ _ _
-    (within _ _ _ (c .before .before .before .before .before .if1 .left)
+    (in-slice _ _ _ (c .before .before .before .before .before .if1 .left)
     (ap readAs (sym (c .before .violation .given .1)) ∙ c .before .before .before .read-message .ensures))
 
 pub next-at-spec : {M : Type 1} → statement M
