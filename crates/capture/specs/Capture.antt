@@ -39,9 +39,10 @@ opened capture = record { capture = capture; place = firstPlace }
 
 -- what stands at a reader's place, and the reader at the place to read on from
 abbrev pub advanced : Role → Reader → Result Message × Reader
-advanced from r =
-    (messageAt from (now (r .capture)) (r .place),
-    record { capture = r .capture; place = placeAfter (r .place) (messageAt from (now (r .capture)) (r .place)) })
+advanced from r = (
+  messageAt from (now (r .capture)) (r .place),
+  record { capture = r .capture; place = placeAfter (r .place) (messageAt from (now (r .capture)) (r .place)) },
+)
 
 -- what each answer means, in the paper's numbers and values
 abbrev pub nextAs : Next → Result Message
