@@ -2,6 +2,8 @@
 mod messages;
 mod pieces;
 
+pub use pieces::first;
+
 // Text of at most 128 bytes: the first bytes, as many as the length says.
 pub struct Line {
     pub bytes: [u8; 128],

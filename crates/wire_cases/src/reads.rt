@@ -31,7 +31,7 @@ fn read_data(high: u8, low: u8, n: usize) {
     input[1] = 0x05;
     input[2] = high;
     input[3] = low;
-    read(Role::Client, show::first(&input, n));
+    read(Role::Client, text::first(&input, n));
 }
 
 fn header(input: &[u8]) {
