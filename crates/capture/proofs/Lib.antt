@@ -1,3 +1,4 @@
 -- The laws of the reader of captures.
+pub mod Held
 pub mod Steps
 pub mod Laws
