@@ -4,10 +4,10 @@ use mathlib.Core.Path.{_≡_, refl, sym, ap, subst, _∙_}
 use mathlib.Core.Logic.{_↔_}
 use mathlib.Core.Bool.{Bool, true, false}
 use mathlib.Core.List.{List, [], _∷_, _++_, append-assoc}
-use Prim.Native.Nat.{ℕ, zero, suc, _+_, _*_, _-_, _≤_, _<_}
+use Prim.Native.Nat.{ℕ, zero, suc, _+_, _-_, _≤_, _<_}
 use native.Mathlib.Omega.{arith}
 use lib.Dec.{ltb}
-use lib.ListN.{length, getD, take, drop, length-append, length-drop, take-append-drop}
+use lib.ListN.{length, take, drop, length-append, length-drop, take-append-drop}
 use lib.Seq.{length-take-le, take-add, drop-drop, getD-drop, take-append-seam, drop-append-seam, drop-append-add}
 use borrow.Author.Tests.{ltb-false}
 use Rattle.laws.specs.Pick.{pick}
@@ -39,7 +39,6 @@ pub record Exact (from : Role) (s : List ℕ) (place : ℕ) (r : Reading) : Type
 
 -- what a capture with a message at a place has there
 record Stands (from : Role) (s : List ℕ) (place : ℕ) (m : Message) : Type 0 where
-  inside : place ≤ length s
   reads : readMessage from (drop place s) ≡ ok m
   long : place + 4 + bodyLength m ≤ length s
 
@@ -52,7 +51,7 @@ stands from s place m e = go (ltb (length s) place) refl e
     go false t q =
         let h : place ≤ length s = ltb-false (length s) place t in
         let l = message-holds from (drop place s) m q .long in
-        record { inside = h; reads = q; long = omega (arith, length-drop place s) }
+        record { reads = q; long = omega (arith, length-drop place s) }
 
 -- ---- what is read is exact
 
@@ -135,39 +134,57 @@ module _ (from : Role) (s : List ℕ) (bytes : Bytes s) where
 -- ---- nothing else is exact
 
 module _ (from : Role) (s : List ℕ) where
-  -- a message that is written at a place stands there
-  module _ (place : ℕ) (w : Whole) (tail : List ℕ) (number : numberOf (w .message) < 65_536) (writes : writable from (w .message) (length (w .body)) ≡ true)
-      (e : drop place s ≡ header (w .message) ++ (w .body ++ tail)) where
-    -- it stands there
-    written-stands : ok (w .message) ≡ messageAt from s place
-    written-stands =
-        let b = length-append (w .body) tail in
-        let all : length (drop place s) ≡ 4 + length (w .body ++ tail) = ap length e ∙ length-append (header (w .message)) (w .body ++ tail) in
-        sym (ap (readMessage from) e ∙ read-written from (w .message) (w .body) number writes tail)
-        ∙ within from s place (omega (arith, length-drop place s))
+  -- a message that is written at a place, with others behind it
+  module _ (place : ℕ) (w : Whole) (ws : List Whole) (tail : List ℕ) (each : EachWritable from (w ∷ ws)) (e : drop place s ≡ written (w ∷ ws) ++ tail) where
+    abbrev m : Message
+    m = w .message
 
-    long : place + 4 ≤ length s
-    long = let l = stands from s place (w .message) (sym written-stands) .long in omega arith
+    abbrev behind : List ℕ
+    behind = written ws ++ tail
 
-    body-same : bodyLength (w .message) ≡ length (w .body)
-    body-same = writable-has from (w .message) (length (w .body)) writes .body
+    apart : drop place s ≡ header m ++ (w .body ++ behind)
+    apart =
+        e
+        ∙ append-assoc (header m) (w .body ++ written ws) tail
+        ∙ ap (λ (l : List ℕ). header m ++ l) (append-assoc (w .body) (written ws) tail)
 
-    whole-same : w ≡ wholeAt s place (w .message)
+    long : place + (4 + length (w .body)) ≤ length s
+    long =
+        let all = ap length apart ∙ length-append (header m) (w .body ++ behind) in
+        omega (arith, all, length-append (w .body) behind, length-drop place s)
+
+    -- the message stands there
+    stands-there : ok m ≡ messageAt from s place
+    stands-there =
+        let l = long in
+        sym (ap (readMessage from) apart ∙ read-written from m (w .body) (each .0) (each .1) behind)
+        ∙ within from s place (omega arith)
+
+    body-same : bodyLength m ≡ length (w .body)
+    body-same = writable-has from m (length (w .body)) (each .1) .body
+
+    -- with its body
+    whole-same : w ≡ wholeAt s place m
     whole-same =
-        ap (λ (l : List ℕ). record { message = w .message; body = l })
-        (sym (take-append-seam (w .body) tail)
-        ∙ ap (λ (n : ℕ). take n (w .body ++ tail)) (sym body-same)
-        ∙ ap (λ (l : List ℕ). take (bodyLength (w .message)) (drop 4 l)) (sym e)
-        ∙ ap (take (bodyLength (w .message))) (drop-drop 4 place s))
+        ap (λ (l : List ℕ). record { message = m; body = l })
+        (sym (take-append-seam (w .body) behind)
+        ∙ ap (λ (n : ℕ). take n (w .body ++ behind)) (sym body-same)
+        ∙ ap (λ (l : List ℕ). take (bodyLength m) (drop 4 l)) (sym apart)
+        ∙ ap (take (bodyLength m)) (drop-drop 4 place s))
 
-    tail-same : drop (place + 4 + bodyLength (w .message)) s ≡ tail
-    tail-same =
-        let sum : place + 4 + bodyLength (w .message) ≡ place + (4 + length (w .body)) = omega (arith, body-same) in
+    -- and the others stand after it
+    next-same : drop (place + 4 + bodyLength m) s ≡ behind
+    next-same =
+        let sum : place + 4 + bodyLength m ≡ place + (4 + length (w .body)) = omega (arith, body-same) in
         ap (λ (n : ℕ). drop n s) sum
         ∙ sym (drop-drop (4 + length (w .body)) place s)
-        ∙ ap (drop (4 + length (w .body))) e
-        ∙ drop-append-add (header (w .message)) (w .body ++ tail) (length (w .body))
-        ∙ drop-append-seam (w .body) tail
+        ∙ ap (drop (4 + length (w .body))) apart
+        ∙ drop-append-add (header m) (w .body ++ behind) (length (w .body))
+        ∙ drop-append-seam (w .body) behind
+
+    end-same : (end : ℕ) → end ≡ place + length (written (w ∷ ws)) → end ≡ place + 4 + bodyLength m + length (written ws)
+    end-same end q =
+        omega (arith, length-append (header m) (w .body ++ written ws), length-append (w .body) (written ws), body-same)
 
   none-only : (n place : ℕ) → ((m : Message) → messageAt from s place ≡ ok m → ⊥) → record { messages = []; end = place } ≡ readUpTo n from s place
   unfolding readUpTo
@@ -180,37 +197,27 @@ module _ (from : Role) (s : List ℕ) where
       go (violation i) e = refl
 
   -- messages that are written one after the other from a place on, up to an end where none stands, are what is read
-  Only : List Whole → ℕ → ℕ → Type 0
-  Only ws n place =
-      (end : ℕ) (tail : List ℕ) → EachWritable from ws → drop place s ≡ written ws ++ tail → end ≡ place + length (written ws)
-      → ((m : Message) → messageAt from s end ≡ ok m → ⊥) → record { messages = ws; end = end } ≡ readUpTo n from s place
-
-  up-to-only : (ws : List Whole) (n place : ℕ) → length s ≤ place + n → Only ws n place
-  unfolding readUpTo Only
-  up-to-only [] n place h end tail each e ends stops =
+  up-to-only : (ws : List Whole) (n place end : ℕ) (tail : List ℕ) → length s ≤ place + n → EachWritable from ws
+      → drop place s ≡ written ws ++ tail → end ≡ place + length (written ws) → ((m : Message) → messageAt from s end ≡ ok m → ⊥)
+      → record { messages = ws; end = end } ≡ readUpTo n from s place
+  unfolding readUpTo
+  up-to-only [] n place end tail h each e q refuses =
       let same : end ≡ place = omega arith in
-      ap (λ (p : ℕ). record { messages = []; end = p }) same ∙ none-only n place (λ m q. stops m (ap (messageAt from s) same ∙ q))
-  up-to-only (w ∷ ws) zero place h end tail each e ends stops =
-      let next = written ws ++ tail in
-      let f : drop place s ≡ header (w .message) ++ (w .body ++ (written ws ++ tail)) = e ∙ append-assoc (header (w .message)) (w .body ++ written ws) tail ∙ ap (λ (l : List ℕ). header (w .message) ++ l) (append-assoc (w .body) (written ws) tail) in
-      let l = long place w next (each .0) (each .1) f in
-      absurd (omega arith)
-  up-to-only (w ∷ ws) (suc n) place h end tail each e ends stops =
-      let next = written ws ++ tail in
-      let f : drop place s ≡ header (w .message) ++ (w .body ++ (written ws ++ tail)) = e ∙ append-assoc (header (w .message)) (w .body ++ written ws) tail ∙ ap (λ (l : List ℕ). header (w .message) ++ l) (append-assoc (w .body) (written ws) tail) in
-      let b = body-same place w next (each .0) (each .1) f in
-      let all : length (header (w .message) ++ (w .body ++ written ws)) ≡ 4 + (length (w .body) + length (written ws)) =
-      length-append (header (w .message)) (w .body ++ written ws) ∙ ap (λ (k : ℕ). 4 + k) (length-append (w .body) (written ws)) in
-      let rest = up-to-only ws n (place + 4 + bodyLength (w .message)) (omega arith) end tail (each .2) (tail-same place w next (each .0) (each .1) f) (omega arith) stops in
-      ap (λ (x : Whole). record { messages = x ∷ ws; end = end }) (whole-same place w next (each .0) (each .1) f)
+      ap (λ (p : ℕ). record { messages = []; end = p }) same ∙ none-only n place (λ m f. refuses m (ap (messageAt from s) same ∙ f))
+  up-to-only (w ∷ ws) zero place end tail h each e q refuses = let l = long place w ws tail each e in absurd (omega arith)
+  up-to-only (w ∷ ws) (suc n) place end tail h each e q refuses =
+      let after = place + 4 + bodyLength (w .message) in
+      let rest =
+      up-to-only ws n after end tail (omega arith) (each .2) (next-same place w ws tail each e) (end-same place w ws tail each e end q) refuses in
+      ap (λ (x : Whole). record { messages = x ∷ ws; end = end }) (whole-same place w ws tail each e)
       ∙ ap (andThen s place (ok (w .message))) rest
-      ∙ ap (λ (r : Result Message). andThen s place r (readUpTo n from s (placeAfter place r))) (written-stands place w next (each .0) (each .1) f)
+      ∙ ap (λ (r : Result Message). andThen s place r (readUpTo n from s (placeAfter place r))) (stands-there place w ws tail each e)
 
   all-only : (place : ℕ) (r : Reading) → Exact from s place r → r ≡ readAll from s place
-  unfolding readAll Only
+  unfolding readAll
   all-only place r x =
       let n = r .end - place in
-      up-to-only (r .messages) (length s) place (omega arith) (r .end) (drop n (drop place s)) (x .each)
+      up-to-only (r .messages) (length s) place (r .end) (drop n (drop place s)) (omega arith) (x .each)
       (sym (take-append-drop n (drop place s)) ∙ ap (λ (l : List ℕ). l ++ drop n (drop place s)) (sym (x .bytes))) (x .ends) (x .stops)
 
 -- until the first refusal the reader gives exactly the messages whose bytes the capture has, from any place, and it ends
