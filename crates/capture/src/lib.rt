@@ -1,15 +1,15 @@
 // The reader of captures, which keeps hold of a capture's bytes and of its place in them.
+mod places;
+
+use places::next_at;
 use refusal::Refusal;
 use refusal::Violation;
 use wire::Message;
 use wire::Role;
-use wire::body_length;
-use wire_read::Read;
-use wire_read::read_message;
 ghost use mathlib.Core.Path.{_≡_};
-ghost use Rattle.capture.specs.Capture.{nextAs, stepAs, stepAt, opened, advanced};
+ghost use Rattle.capture.specs.Capture.{opened, stepAt, advanced, nextAs, stepAs};
 
-// The place of the first message: a capture begins with a connection header, which is not read here.
+// The place of the first message, behind the connection header, which is not read here.
 pub const FIRST_PLACE: usize = 8;
 
 // The next message, or why there is none.
@@ -19,46 +19,20 @@ pub enum Next {
     Violated(Violation),
 }
 
-// What stands at a place, and the place to read on from: after the message, or the same where there is none.
+// What stands at a place, and the place to read on from: after a message, and the same for a refusal.
 pub struct Step {
     pub next: Next,
     pub place: usize,
 }
 
-// The message from a sender that stands at a place of a capture, and the place after it.
-pub(crate) fn next_at(capture: &[u8], from: Role, place: usize) -> Step
-    ensures { λ r. ⌜ stepAs r ≡ stepAt from (now (capture .entry)) place ⌝ }
-{
-    if capture.len() < place {
-        return Step {
-            next: Next::Refused(Refusal::IllFormed),
-            place,
-        };
-    }
-    match read_message(from, &capture[place..]) {
-        Read::Message(message) => Step {
-            next: Next::Message(message),
-            place: place + 4 + (body_length(message) as usize),
-        },
-        Read::Incomplete => Step {
-            next: Next::Refused(Refusal::Incomplete),
-            place,
-        },
-        Read::Violated(violation) => Step {
-            next: Next::Violated(violation),
-            place,
-        },
-    }
-}
-
-// A reader of a capture that is lent to it, at a place.
+// A reader at a place of the capture that is lent to it.
 pub struct Reader<'a> {
     pub capture: &'a [u8],
     pub place: usize,
 }
 
 impl<'a> Reader<'a> {
-    // A reader at the first message.
+    // A reader at the first message of a capture.
     pub fn new(capture: &'a [u8]) -> Reader<'a>
         ensures { λ r. ⌜ r ≡ opened (capture .entry) ⌝ }
     {
@@ -68,7 +42,7 @@ impl<'a> Reader<'a> {
         }
     }
 
-    // The message from a sender at the reader's place, which moves past it; a refusal keeps its place.
+    // What stands at the reader's place, for a sender; the reader moves past a message, and a refusal keeps its place.
     pub fn next(&mut self, from: Role) -> Next
         ensures { λ r. ⌜ (nextAs r, now (self .exit)) ≡ advanced from (now (self .entry)) ⌝ }
     {
@@ -78,7 +52,7 @@ impl<'a> Reader<'a> {
     }
 }
 
-// The message from a sender at a place of a capture, through a reader at that place.
+// What a reader of a capture finds at a place, for a sender.
 pub fn read_at(capture: &[u8], from: Role, place: usize) -> Step
     ensures { λ r. ⌜ stepAs r ≡ stepAt from (now (capture .entry)) place ⌝ }
 {
