@@ -1,4 +1,4 @@
 -- The laws of the reader of captures.
-pub mod Held
+mod Held
 pub mod Steps
 pub mod Laws

@@ -112,7 +112,8 @@ module _ {M : Type 1} (𝓤 : URA M) (H : Heap 𝓤) (A : Atoms 𝓤) (W : Given
   unfolding partOf
   back =
       qed W (‵ (mem (R κ) .lies h l 0) ∷ []) ∵ fpick ! (λ vs. fsplit ! $
-      spelt ! (R κ) (Is (R κ)) (shows 𝓤 H A (R κ)) (LL.vals (T.the-type (α κ)) (T′.the-laws (α κ))) (LL.tells (T.the-type (α κ)) (T′.the-laws (α κ))) fullShare h vs l 0 $
+      spelt ! (R κ) (Is (R κ)) (shows 𝓤 H A (R κ)) (LL.vals (T.the-type (α κ)) (T′.the-laws (α κ))) (LL.tells (T.the-type (α κ)) (T′.the-laws (α κ)))
+      fullShare h vs l 0 $
       use1 W (‵ cell) (W .laws .raw-at fullShare (T′.mir erased) l 0 (T′.lowered h)) $ done !)
 
 module _ {M : Type 1} (𝓤 : URA M) (H : Heap 𝓤) (A : Atoms 𝓤) (W : Given 𝓤 H A) (at-mem : Memory → SProp 𝓤) (run : Routine → Fun 𝓤)
@@ -152,7 +153,15 @@ module _ {M : Type 1} (𝓤 : URA M) (H : Heap 𝓤) (A : Atoms 𝓤) (W : Given
   asks : (n l : ℕ) (δ : GName) → ent 𝓤 (⋆ 𝓤 H A (‵ (flft (n ∷ κ) q₁) ∷ ‵ (flft κ q₂) ∷ ‵ (Lent n l δ) ∷ [])) (NextOf 𝓤 H A at-mem run .pre (to n l δ))
   asks n l δ =
       qed W (‵ (flft (n ∷ κ) q₁) ∷ ‵ (flft κ q₂) ∷ ‵ (Lent n l δ) ∷ []) ∵
-      nothing ! $ role ! f f-is $ fjoin ! $ move ! (3 ∷ 0 ∷ []) $ fjoin ! $ nothing ! $ move ! (3 ∷ 0 ∷ []) $ join ! $ move ! (2 ∷ 0 ∷ []) $ join ! $ join ! $ frame ! $ done !
+      nothing ! $ role ! f f-is $ fjoin ! $ move ! (3 ∷ 0 ∷ []) $ fjoin ! $
+      nothing ! $ move ! (3 ∷ 0 ∷ []) $ join ! $ move ! (2 ∷ 0 ∷ []) $ join ! $ join ! $ frame ! $ done !
+
+  abbrev Ensured : ℕ → ℕ → GName → Next → SProp 𝓤
+  Ensured n l δ r = ensured 𝓤 H A next.ended (next.clauses 𝓤 H A at-mem run) (n ∷ κ, (κ, tt)) (lent l δ, (f, tt)) tt r
+
+  -- what is said of the reader's last value
+  abbrev Last : ℕ → ℕ → GName → Reader × (Unit {0} × Unit {0}) → Fml
+  Last n l δ ws = lasts next.ended (n ∷ κ, (κ, tt)) (lent l δ, (f, tt)) ws
 
   -- ---- the exit
 
@@ -201,15 +210,16 @@ module _ {M : Type 1} (𝓤 : URA M) (H : Heap 𝓤) (A : Atoms 𝓤) (W : Given
         -- _5 = next(_6, _2)
         calls-at ! fm (NextOf 𝓤 H A at-mem run) known (to n l₄ δ)
         (and-then ! (load ! (from ! (stop !)) (look ! 8 refl)) (and-then ! (load ! (from ! (stop !)) (look ! 15 refl)) (no-more !))) (λ u.
-        use1 W (later (some (λ (r : Next). ((‵ (flft (n ∷ κ) q₁) ⊛ ‵ (flft κ q₂) ⊛ ‵ ftrue) ⊛ ‵ (N.the-row .own r (u ∷ []))) ⊛ raw (ensured 𝓤 H A next.ended (next.clauses 𝓤 H A at-mem run) (n ∷ κ, (κ, tt)) (lent l₄ δ, (f, tt)) tt r)))) (id⊢ 𝓤 _) $
+        use1 W (later (some (λ (r : Next). ((‵ (flft (n ∷ κ) q₁) ⊛ ‵ (flft κ q₂) ⊛ ‵ ftrue) ⊛ ‵ (N.the-row .own r (u ∷ []))) ⊛ raw (Ensured n l₄ δ r)))) (id⊢ 𝓤 _) $
         await ! tt $ pick ! (λ r. split ! $ move ! (1 ∷ []) $
-        use1 W (some (λ (ws : Reader × (Unit {0} × Unit {0})). ‵ (lasts next.ended (n ∷ κ, (κ, tt)) (lent l₄ δ, (f, tt)) ws) ⊛ raw (fact 𝓤 (Advanced f h r (ws .0))))) (id⊢ 𝓤 _) $
+        use1 W (some (λ (ws : Reader × (Unit {0} × Unit {0})). ‵ (Last n l₄ δ ws) ⊛ raw (fact 𝓤 (Advanced f h r (ws .0))))) (id⊢ 𝓤 _) $
         pick ! (λ ws. split ! $ move ! (1 ∷ []) $ heard ! (Advanced f h r (ws .0)) (λ e. fsplit ! $ move ! (2 ∷ []) $ split ! $ move ! (1 ∷ []) $
         peeks ! N.the-row (Is N.the-row) (shows 𝓤 H A N.the-row) r (u ∷ []) (λ r-is. drop ! $
         let r-tells = EL.tells N.the-type N′.the-laws r (u ∷ []) r-is in
         land ! (from ! (stop !)) (init ! 12 refl (EL.lawful N.the-type N′.the-laws 𝓤 H A W tt .typed r _ r-is .0)) $
         rewrite ! 12 (λ (w : Val). ‵ (fat fullShare N′.mir l₅ 0 w)) (ap only r-tells) refl $
-        -- [the tokens; the reader's last value; …; the lender's part; the rest of n's token; true; what s owns; the other parameters'; _7; …]: n is ended, and _4 is taken back at that value
+        -- [the tokens; the reader's last value; …; the lender's part; the rest of n's token; true; what s owns; the other parameters'; _7; …]
+        -- n is ended, and _4 is taken back at that value
         split ! $ move ! (0 ∷ 5 ∷ []) $ use2 W (later (‵ (fdead (n ∷ κ)) ⊛ ‵ (flft κ q₁))) (within-end 𝓤 H A W n κ q₁) $ await ! tt $ split ! $
         move ! (0 ∷ 5 ∷ 3 ∷ []) $ use3 W (later (‵ (mem (R κ) .lies (ws .0) l₄ 0))) (ref-back 𝓤 H A W (R κ) (n ∷ κ) δ (ws .0) l₄ 0) $ await ! tt $
         use1 W (‵ (cell 𝓤 H A W κ l₄ (ws .0)) ⊛ ‵ (ReaderOwn (α κ) (ws .0))) (back 𝓤 H A W κ l₄ (ws .0)) $ split ! $
@@ -223,7 +233,8 @@ module _ {M : Type 1} (𝓤 : URA M) (H : Heap 𝓤) (A : Atoms 𝓤) (W : Given
         -- _0 = Step { _5, _7 }
         assigns ! (agg ! (and-then ! (load ! (from ! (stop !)) (look ! 11 refl)) (and-then ! (load ! (from ! (stop !)) (look ! 7 refl)) (no-more !)))) (from ! (stop !))
         (init ! 20 refl (LL.lawful S.the-type S′.the-laws 𝓤 H A W .typed (step r (ws .0)) _ step-is .0)) $
-        returns ! (look ! 20 refl) $ forget ! 2 refl $ forget ! 7 refl $ forget ! 9 refl $ forget ! 11 refl $ forget ! 14 refl $ forget ! 16 refl $ forget ! 18 refl $ forget ! 20 refl $
+        returns ! (look ! 20 refl) $ forget ! 2 refl $ forget ! 7 refl $ forget ! 9 refl $ forget ! 11 refl $
+        forget ! 14 refl $ forget ! 16 refl $ forget ! 18 refl $ forget ! 20 refl $
         move ! (20 ∷ 21 ∷ []) $ free1 ! $ move ! (18 ∷ 19 ∷ []) $ free1 ! $ move ! (16 ∷ 17 ∷ []) $ free1 ! $ move ! (14 ∷ 15 ∷ []) $ free1 ! $
         move ! (2 ∷ 13 ∷ []) $ free1 ! $ move ! (10 ∷ 11 ∷ []) $ free1 ! $ move ! (8 ∷ 9 ∷ []) $ free1 ! $ move ! (6 ∷ 7 ∷ []) $ free1 ! $ free0 ! $
         keep ! (0 ∷ 4 ∷ []) $ by ! (exits (step r (ws .0)) (steps f h (ws .0) r e) step-is)))))))))))))))))

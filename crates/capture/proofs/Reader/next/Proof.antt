@@ -18,7 +18,7 @@ use ghost.Atoms.{Atoms, sem}
 use contract.Lifetimes.{AllOutlive}
 use contract.Monad.{Fun, fact}
 use contract.Running.{givenOf, tables, tablesOf}
-use types.Kit.{Given, ‵, raw, some, later, ⋆, _⊛_, _$_, _∵_, !, qed, by, move, keep, drop, use1, use2, split, join, pick, rewrite, fsplit, fsplit3, fjoin, fjoin3, feqI, suffices, frame, await, done}
+use types.Kit.{Given, Item, ‵, raw, some, later, ⋆, _⊛_, _$_, _∵_, !, qed, by, move, keep, drop, use1, use2, split, join, pick, rewrite, fsplit, fsplit3, fjoin, fjoin3, feqI, suffices, frame, await, done}
 use types.Part.{whole, sub, look-in, store-in}
 use types.Run.{look, init, forget, stop, hop, fld, from, load, of-opd, and-then, no-more, assigns, land, returns, enter, alloc1, alloc0, params1, pass1, pass0, free1, free0}
 use types.SemTy.{Body}
@@ -129,17 +129,21 @@ module _ {M : Type 1} (𝓤 : URA M) (H : Heap 𝓤) (A : Atoms 𝓤) (W : Given
       qed W ((‵ (flft κ′ q′) ⊛ ‵ ftrue) ∷ ‵ (SliceOwn κ′ (h .capture)) ∷ []) ∵
       nothing ! $ number ! (h .place) fits $ fjoin ! $ role ! f f-is $ fjoin ! $ move ! (2 ∷ 0 ∷ []) $ fjoin ! $ move ! (1 ∷ 0 ∷ []) $ join ! $ frame ! $ done !
 
+  abbrev Ensured : Step → SProp 𝓤
+  Ensured r = ensured 𝓤 H A next-at.ended (next-at.clauses 𝓤 H A at-mem run) (κ′, tt) args tt r
+
   -- it has no `&mut`, so what is said of last values is dropped
-  said : (r : Step) → ent 𝓤 (ensured 𝓤 H A next-at.ended (next-at.clauses 𝓤 H A at-mem run) (κ′, tt) args tt r) (fact 𝓤 (Stepped f h r))
+  said : (r : Step) → ent 𝓤 (Ensured r) (fact 𝓤 (Stepped f h r))
   said r = exE 𝓤 _ (λ ws. snd∗ 𝓤 (sem 𝓤 H A (lasts next-at.ended (κ′, tt) args ws)) (fact 𝓤 (Stepped f h r)))
 
   -- ---- the exit, with the borrow at the reader that is moved
 
-  exits : (r : Step) → Stepped f h r → Is N.the-row (r .next) (next-val (r .next) ∷ [])
-      → ent 𝓤 (⋆ 𝓤 H A (‵ (fobs γ (R κ′ .coded .code (moved h (r .place)))) ∷ ‵ (fbor κ (Body (mem (R κ′)) b o γ)) ∷ ‵ (flft κ q) ∷ (‵ (flft κ′ q′) ⊛ ‵ ftrue) ∷ []))
-      (Post (next-val (r .next)))
+  abbrev Closed : Reader → List (Item 𝓤)
+  Closed h′ = ‵ (fobs γ (R κ′ .coded .code h′)) ∷ ‵ (fbor κ (Body (mem (R κ′)) b o γ)) ∷ ‵ (flft κ q) ∷ (‵ (flft κ′ q′) ⊛ ‵ ftrue) ∷ []
+
+  exits : (r : Step) → Stepped f h r → Is N.the-row (r .next) (next-val (r .next) ∷ []) → ent 𝓤 (⋆ 𝓤 H A (Closed (moved h (r .place)))) (Post (next-val (r .next)))
   exits r e is =
-      qed W (‵ (fobs γ (R κ′ .coded .code (moved h (r .place)))) ∷ ‵ (fbor κ (Body (mem (R κ′)) b o γ)) ∷ ‵ (flft κ q) ∷ (‵ (flft κ′ q′) ⊛ ‵ ftrue) ∷ []) ∵
+      qed W (Closed (moved h (r .place))) ∵
       suffices ! _ (ends-at 𝓤 H A next.ended stayed (next.clauses 𝓤 H A at-mem run) W (((κ, (κ′, tt)), (q, (q′, tt)), bounds, x, at), tt)
       (next-val (r .next)) (r .next) (moved h (r .place), (tt, tt)) (tt, (tt, tt))) $ says ! (advances f h r e) $
       -- the tokens; the parameters; the result
@@ -177,9 +181,9 @@ module _ {M : Type 1} (𝓤 : URA M) (H : Heap 𝓤) (A : Atoms 𝓤) (W : Given
         move ! (6 ∷ 0 ∷ []) $ use2 W (raw (NextAt 𝓤 H A at-mem run .pre to)) (asks (place-fits (α κ′) h is)) $
         -- [what the callee asks; what the slice owns; the cell; the open borrow; obs; auth; the role's; _5; …; _4; …; _3; …; _2; …; _1; …; room for _0; …]
         -- _3 = next_at(_4, _2, _5)
-        calls-at ! fm (NextAt 𝓤 H A at-mem run) known to
-        (and-then ! (load ! (from ! (stop !)) (look ! 9 refl)) (and-then ! (load ! (from ! (stop !)) (look ! 13 refl)) (and-then ! (load ! (from ! (stop !)) (look ! 7 refl)) (no-more !)))) (λ v.
-        use1 W (later (some (λ (r : Step). ((‵ (flft κ′ q′) ⊛ ‵ ftrue) ⊛ ‵ (S.the-row .own r (v ∷ []))) ⊛ raw (ensured 𝓤 H A next-at.ended (next-at.clauses 𝓤 H A at-mem run) (κ′, tt) args tt r)))) (id⊢ 𝓤 _) $
+        calls-at ! fm (NextAt 𝓤 H A at-mem run) known to (and-then ! (load ! (from ! (stop !)) (look ! 9 refl))
+        (and-then ! (load ! (from ! (stop !)) (look ! 13 refl)) (and-then ! (load ! (from ! (stop !)) (look ! 7 refl)) (no-more !)))) (λ v.
+        use1 W (later (some (λ (r : Step). ((‵ (flft κ′ q′) ⊛ ‵ ftrue) ⊛ ‵ (S.the-row .own r (v ∷ []))) ⊛ raw (Ensured r)))) (id⊢ 𝓤 _) $
         await ! tt $ pick ! (λ r. split ! $ move ! (1 ∷ []) $ use1 W (raw (fact 𝓤 (Stepped f h r))) (said r) $ heard ! (Stepped f h r) (λ e.
         split ! $ move ! (1 ∷ []) $ peeks ! S.the-row (Is S.the-row) (shows 𝓤 H A S.the-row) r (v ∷ []) (λ step-is. drop ! $
         land ! (from ! (stop !)) (init ! 11 refl (LL.lawful S.the-type S′.the-laws 𝓤 H A W .typed r _ step-is .0)) $

@@ -10,7 +10,9 @@ returns c =
     (added-twice _ _ _
     (added-twice _ _ _
     (added-twice _ _ _
-    (added-twice _ _ _ (c .before .before .before .before .before .before .before .before .before .before .item .ensures) (c .before .before .before .before .before .before .before .before .flag .ensures))
+    (added-twice _ _ _
+    (c .before .before .before .before .before .before .before .before .before .before .item .ensures)
+    (c .before .before .before .before .before .before .before .before .flag .ensures))
     (c .before .before .before .before .before .before .flag2 .ensures))
     (c .before .before .before .before .flag3 .ensures))
     (c .before .before .flag4 .ensures))
