@@ -28,7 +28,7 @@ pub enum Refusal {
     BadValue,
     // A ping is outstanding.
     PingOutstanding,
-    // The state is not well formed, or the message is one that the reader would not give back.
+    // The state is not well formed, the message is one that the reader would not give back, or the place is past the end.
     IllFormed,
 }
 

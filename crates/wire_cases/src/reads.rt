@@ -38,7 +38,7 @@ fn put_header(room: &mut [u8], high: u8, low: u8) {
 fn read_data(high: u8, low: u8, n: usize) {
     let mut input = [0u8; 65600];
     put_header(&mut input, high, low);
-    read(Role::Client, show::first(&input, n));
+    read(Role::Client, text::first(&input, n));
 }
 
 fn header(input: &[u8]) {

@@ -1,4 +1,6 @@
 // A message, a role and bytes as text on standard output.
+use text::Line;
+use text::first;
 use wire::Message;
 use wire::Role;
 
@@ -15,11 +17,6 @@ pub(crate) fn role(from: Role) {
         Role::Client => text(b"client "),
         Role::Server => text(b"server "),
     }
-}
-
-// The first n bytes, or all where there are fewer.
-pub(crate) fn first(s: &[u8], n: usize) -> &[u8] {
-    if n <= s.len() { &s[..n] } else { s }
 }
 
 // Each byte as two hexadecimal digits; of more than 16 bytes the first four and the count.
@@ -47,58 +44,9 @@ fn digits(s: &[u8]) {
     }
 }
 
-fn item(name: &[u8], value: u64) {
-    text(name);
-    number(value);
-}
-
-fn flag(name: &[u8], set: bool) {
-    if set {
-        text(name);
-    }
-}
-
 pub(crate) fn message(m: Message) {
-    match m {
-        Message::NoOperation { length } => item(b"noop length ", length as u64),
-        Message::Shutdown { length } => item(b"shutdown length ", length as u64),
-        Message::Ping { cookie } => item(b"ping cookie ", cookie as u64),
-        Message::PingAck { cookie } => item(b"pingack cookie ", cookie as u64),
-        Message::Error { length } => item(b"error length ", length as u64),
-        Message::IncrementRation {
-            shift,
-            session,
-            increment,
-        } => {
-            item(b"increment id ", session as u64);
-            item(b" shift ", shift as u64);
-            item(b" increment ", increment as u64);
-        }
-        Message::Abort {
-            partial,
-            session,
-            length,
-        } => {
-            item(b"abort id ", session as u64);
-            flag(b" partial", partial);
-            item(b" length ", length as u64);
-        }
-        Message::Close { session } => item(b"close id ", session as u64),
-        Message::Acknowledgment { session } => item(b"ack id ", session as u64),
-        Message::Data {
-            open,
-            close,
-            eof,
-            ack_required,
-            session,
-            length,
-        } => {
-            item(b"data id ", session as u64);
-            flag(b" open", open);
-            flag(b" close", close);
-            flag(b" eof", eof);
-            flag(b" ack", ack_required);
-            item(b" length ", length as u64);
-        }
-    }
+    let line = Line::new().message(m);
+    let bytes = line.bytes;
+    let n = line.length;
+    text(first(&bytes, n));
 }

@@ -10,7 +10,7 @@ fn result(w: Written, room: &[u8]) {
         Written::Wrote(n) => {
             if n <= room.len() {
                 show::text(b": wrote ");
-                show::bytes(show::first(room, n));
+                show::bytes(text::first(room, n));
                 show::text(b" then ");
                 show::bytes(&room[n..]);
             }

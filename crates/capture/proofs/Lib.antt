@@ -1,0 +1,4 @@
+-- The laws of the reader of captures.
+mod Held
+pub mod Steps
+pub mod Laws

@@ -1,0 +1,3 @@
+-- The definitions of the reader of captures.
+pub mod Capture
+pub mod Reading

@@ -1,0 +1,3 @@
+-- The laws of a line of text.
+pub mod Lines
+pub mod Decimals
