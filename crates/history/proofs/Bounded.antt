@@ -6,10 +6,9 @@ use Prim.Native.Nat.{ℕ, _<_}
 use native.Mathlib.Omega.{arith}
 use lib.ListN.{length, take}
 use Rattle.laws.specs.Circle.{nearest}
-use Rattle.laws.specs.Runs.{run, logOf}
+use Rattle.laws.specs.Runs.{run}
 use Rattle.laws.specs.Result.{ok, refused}
 use Rattle.laws.proofs.Circle.{nearest-lt, nearest-found, nearest-same}
-use Rattle.laws.proofs.Runs.{log-split, Split}
 use Rattle.laws.proofs.Results.{ok-same, refused-same, refused-not-ok}
 use Rattle.laws.proofs.Tests.{true-false}
 use Rattle.wire.specs.Message as wire
@@ -33,6 +32,7 @@ use Rattle.history.proofs.Good.{Ok, setupOf, lineOf, holds, one}
 use Rattle.history.proofs.Receives.{GoodBy}
 use Rattle.history.proofs.Simulation.{observed-is, run-made, made-ok, own-ok, same-setup, decide-good, next-ok, queue-refused, queue-violated}
 use Rattle.history.proofs.Fair.{nothing-data, error-data, ready-is, waits-log, own-log}
+use Rattle.history.proofs.Entries.{At, entry-at, called}
 use Rattle.history.proofs.Never.{never-14}
 use Rattle.history.proofs.Turning.{Clear, Way, early, none, taken, way, due-bytes, waiting-look, turn-bytes, last-run}
 
@@ -190,31 +190,7 @@ module _ (setup : Setup) (hh : setup .header < 65_536) (queue : List ℕ) (ks : 
 -- ---- of every entry of a log
 
 module _ (setup : Setup) (hh : setup .header < 65_536) (queue : List ℕ) where
-  -- an entry comes from a call, after those before it
-  record At (a : List Entry) (e : Entry) : Type 0 where
-    before : List Call
-    call : Call
-    log-before : log.log setup queue before ≡ a
-    entry : out (log.run setup queue before) call ≡ e
-
-  entry-at : (ks : List Call) (a c : List Entry) (e : Entry) → log.log setup queue ks ≡ a ++ (e ∷ c) → At a e
-  unfolding logOf
-  entry-at ks a c e h = go (log-split next out (made setup queue) ks a (e ∷ c) h)
-    where
-      first-of : (s : State) (l : List Call) → logOf next out s l ≡ e ∷ c → (k : Call) × (out s k ≡ e)
-      first-of s [] z = absurd (let w : _≡_ {A = ℕ} 0 1 = cc in omega arith)
-      first-of s (k ∷ l) z = (k, cc)
-
-      go : Split next out (made setup queue) a (e ∷ c) → At a e
-      go x =
-          let y = first-of (log.run setup queue (x .early)) (x .later) (x .second) in
-          record { before = x .early; call = y .0; log-before = x .first; entry = y .1 }
-
-  called : (s : State) (k : Call) → out s k .call ≡ k
-  unfolding out
-  called s k = refl
-
-  turns-log : (a : List Entry) (e : Entry) (room : List ℕ) → At a e → e .call ≡ turn room → Turns setup (length queue) a e (length room)
+  turns-log : (a : List Entry) (e : Entry) (room : List ℕ) → At setup queue a e → e .call ≡ turn room → Turns setup (length queue) a e (length room)
   turns-log a e room x h =
       let s = log.run setup queue (x .before) in
       let k : x .call ≡ turn room = sym (called s (x .call)) ∙ ap (λ (z : Entry). z .call) (x .entry) ∙ h in
@@ -223,13 +199,13 @@ module _ (setup : Setup) (hh : setup .header < 65_536) (queue : List ℕ) where
       (subst (λ (z : Entry). Turns setup (length queue) (log.log setup queue (x .before)) z (length room)) same
       (turns-calls setup hh queue (x .before) room))
 
-  quiet-log : (a : List Entry) (e : Entry) → At a e → isTurn (e .call) ≡ false → dataWritten setup e ≡ []
+  quiet-log : (a : List Entry) (e : Entry) → At setup queue a e → isTurn (e .call) ≡ false → dataWritten setup e ≡ []
   quiet-log a e x h =
       let s = log.run setup queue (x .before) in
       let k : isTurn (x .call) ≡ false = ap isTurn (sym (called s (x .call)) ∙ ap (λ (z : Entry). z .call) (x .entry)) ∙ h in
       ap (dataWritten setup) (sym (x .entry)) ∙ quiet-out setup s (x .call) (run-made setup hh queue (x .before)) k
 
-  never-log : (a : List Entry) (e : Entry) → At a e → e .answer ≡ refused 14 → ⊥
+  never-log : (a : List Entry) (e : Entry) → At setup queue a e → e .answer ≡ refused 14 → ⊥
   never-log a e x h =
       never-14 setup (log.run setup queue (x .before)) (x .call) (run-made setup hh queue (x .before)) (ap (λ (z : Entry). z .answer) (x .entry) ∙ h)
 
@@ -239,7 +215,7 @@ module _ (setup : Setup) (hh : setup .header < 65_536) (queue : List ℕ) where
       record {
         waits = waits-log setup hh queue calls;
         own-by-128 = own-log setup hh queue calls;
-        turns = λ a c e room z h. turns-log a e room (entry-at calls a c e z) h;
-        only-turns-write-data = λ a c e z h. quiet-log a e (entry-at calls a c e z) h;
-        never-14 = λ a c e z h. never-log a e (entry-at calls a c e z) h;
+        turns = λ a c e room z h. turns-log a e room (entry-at setup queue calls a c e z) h;
+        only-turns-write-data = λ a c e z h. quiet-log a e (entry-at setup queue calls a c e z) h;
+        never-14 = λ a c e z h. never-log a e (entry-at setup queue calls a c e z) h;
       }

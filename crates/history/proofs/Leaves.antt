@@ -1,6 +1,6 @@
 -- What a call that is not taken leaves, for every state: from the shape of the decisions alone.
-use mathlib.Core.Path.{_≡_, refl, sym, ap, _∙_, subst}
-use mathlib.Core.Bool.{Bool, true, false}
+use mathlib.Core.Path.{_≡_, refl, sym, ap, _∙_}
+use mathlib.Core.Bool.{true, false}
 use mathlib.Core.List.{List, []}
 use Prim.Native.Nat.{ℕ}
 use lib.ListN.{length}
@@ -16,9 +16,9 @@ use Rattle.protocol.specs.declared.Stage.the-variants as stage
 use Rattle.protocol.specs.declared.Connection.{Connection}
 use Rattle.protocol.specs.Plan.{Plan, stop, check, take, settle}
 use Rattle.protocol.specs.Message.{Scope, whole, of-session, scope}
-use Rattle.protocol.specs.Receipt.{Taken, receipt}
+use Rattle.protocol.specs.Receipt.{receipt}
 use Rattle.protocol.specs.Connection.{Cause, line-lost, at, roleOf, ownStart, farStart, ended}
-use Rattle.protocol.specs.Judge.{Report, message, Out, Effect, Breach, Decision, refuse, violate, accept, with-session, errorAfter, breach, judgeWhole, judgeScope, judge}
+use Rattle.protocol.specs.Judge.{Report, message, Effect, Breach, Decision, refuse, violate, accept, with-session, errorAfter, breach, judgeWhole, judgeScope, judge}
 use Rattle.protocol.specs.Call.{otherEnd, headerTaken, messageTaken, reading, receiveGate, receiveRule}
 use Rattle.protocol.specs.Result.{bytesOfAll}
 use Rattle.history.specs.Log.{Call, start, open-session, put, finish, turn, grant, abort, close, shutdown, lost, receive, State, decide, payloadOf, gives, nextBy, outBy, next, out}

@@ -8,6 +8,8 @@ pub mod Receives
 pub mod Simulation
 pub mod Fair
 pub mod Turning
+pub mod Entries
 pub mod Never
 pub mod Bounded
 pub mod Leaves
+pub mod Taking

@@ -58,7 +58,7 @@ judged s k f (take a) h = h
 
 -- ---- which session a message is of
 
-scope-number : (m : Message) (i : ℕ) (sm : SessionMessage) → scope m ≡ of-session i sm → secondByte m ≡ i
+pub scope-number : (m : Message) (i : ℕ) (sm : SessionMessage) → scope m ≡ of-session i sm → secondByte m ≡ i
 scope-number (msg.NoOperation n) i sm e = absurd (let z : _≡_ {A = ℕ} 0 1 = cc in omega arith)
 scope-number (msg.Shutdown n) i sm e = absurd (let z : _≡_ {A = ℕ} 0 1 = cc in omega arith)
 scope-number (msg.Ping n) i sm e = absurd (let z : _≡_ {A = ℕ} 0 1 = cc in omega arith)

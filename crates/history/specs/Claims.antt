@@ -9,17 +9,20 @@ use lib.Dec.{eqb}
 use Rattle.laws.specs.Result.{Result, ok, refused, violation}
 use Rattle.laws.specs.Circle.{nearest}
 use Rattle.laws.specs.Runs.{Every, gather, times}
+use Rattle.ration.specs.Ration.{fromHeader}
 use Rattle.wire.specs.declared.Message.{Message}
 use Rattle.wire.specs.declared.Message.the-variants as msg
 use Rattle.wire.specs.Message as wire
 use Rattle.wire.specs.Message.{readMessage}
 use Rattle.protocol.specs.declared.Setup.{Setup}
 use Rattle.protocol.specs.Slot.{queueSize, turnRoom}
-use Rattle.protocol.specs.Message.{numbered}
+use Rattle.protocol.specs.declared.Ping.{Ping}
+use Rattle.protocol.specs.Message.{numbered, Scope, whole, of-session, scope}
 use Rattle.protocol.specs.Connection.{line-lost, exchanged, ended}
-use Rattle.protocol.specs.Judge.{Report, served, errorAfter}
+use Rattle.protocol.specs.Judge.{Report, served, message, errorAfter, matches}
+use Rattle.protocol.specs.Call.{otherEnd}
 use Rattle.protocol.specs.Result.{bytesOfAll}
-use Rattle.protocol.specs.Observed.{Sending, silent, sending, isReady, anyLapse, dueData}
+use Rattle.protocol.specs.Observed.{Sending, silent, sending, isReady, anyLapse, dueData, mayArrive}
 use Rattle.history.specs.Log.{Call, start, open-session, put, finish, turn, grant, abort, close, ping, shutdown, lost, receive, State, Entry, decide, gives, next, out}
 use Rattle.history.specs.Account.{lineAfter, events, observed, blankAccount}
 
@@ -141,3 +144,37 @@ pub record RefusedLeaves (s : State) (k : Call) : Type 0 where
       × (out s k .wrote ≡ bytesOfAll [] (errorAfter (s .connection .stage) (s .connection .own)))
   -- and no input is used
   pub unused : ((r : Report) → out s k .answer ≡ ok r → ⊥) → gives s k (decide (s .connection) (s .queue) k) .used ≡ 0
+
+-- ---- a message is taken exactly where 002 lets the far end send it
+
+-- no check before the message refuses a receive
+pub record Listening (s : Setup) (a : List Entry) (room : ℕ) : Type 0 where
+  pub not-over : observed s 0 a .line .over ≡ false
+  pub up : exchanged (observed s 0 a .line .stage) ≡ true
+  pub roomy : 12 ≤ room
+
+-- a message of the connection as a whole may always arrive, but for a PingAck, which has to match the outstanding cookie
+abbrev pub wholeMayArrive : Ping → Message → Bool
+wholeMayArrive p (msg.NoOperation n) = true
+wholeMayArrive p (msg.Shutdown n) = true
+wholeMayArrive p (msg.Ping k) = true
+wholeMayArrive p (msg.PingAck k) = matches p k
+wholeMayArrive p (msg.Error n) = true
+wholeMayArrive p (msg.IncrementRation t i n) = false
+wholeMayArrive p (msg.Abort b i n) = false
+wholeMayArrive p (msg.Close i) = false
+wholeMayArrive p (msg.Acknowledgment i) = false
+wholeMayArrive p (msg.Data o c e b i n) = false
+
+-- an Acknowledgment may arrive wherever its sender has not terminated the session, asked for or not
+abbrev pub mayCome : Setup → List Entry → Message → Scope → Bool
+mayCome s a m whole = wholeMayArrive (observed s 0 a .line .ping) m
+mayCome s a m (of-session i x) = mayArrive (s .role) (fromHeader (s .header)) (observed s i a .seen) x
+
+pub record TakesExactly (s : Setup) (log : List Entry) : Type 0 where
+  pub takes : (a c : List Entry) (e : Entry) (input room : List ℕ) (m : Message) → log ≡ a ++ (e ∷ c) → e .call ≡ receive input room
+      → Listening s a (length room) → readMessage (otherEnd (s .role)) input ≡ ok m
+      → mayCome s a m (scope m) ≡ true → (late : Bool) × (e .answer ≡ ok (message m late))
+  pub else-violated : (a c : List Entry) (e : Entry) (input room : List ℕ) (m : Message) → log ≡ a ++ (e ∷ c) → e .call ≡ receive input room
+      → Listening s a (length room) → readMessage (otherEnd (s .role)) input ≡ ok m
+      → mayCome s a m (scope m) ≡ false → (n : ℕ) × (e .answer ≡ violation n)

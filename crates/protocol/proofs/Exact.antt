@@ -27,7 +27,7 @@ use Rattle.protocol.proofs.Views.{endsOf, sendsOf, look}
 use Rattle.protocol.proofs.Receipts.{begins}
 
 -- one check of what may be sent, and nothing more
-once : (a : Bool) → (not a ≡ true → a ≡ false) × (not a ≡ false → a ≡ true)
+pub once : (a : Bool) → (not a ≡ true → a ≡ false) × (not a ≡ false → a ≡ true)
 once a = (not-true a, not-false a)
 
 module _ (r : Role) (own far : Ration) (x : Session) (s : List ℕ) where

@@ -1,7 +1,8 @@
 -- What a rule comes to: one law for each way through its checks, and what holds where it takes.
-use mathlib.Core.Path.{_≡_}
+use mathlib.Core.Path.{_≡_, refl}
 use mathlib.Core.Bool.{Bool, true, false}
 use Prim.Native.Nat.{ℕ}
+use Rattle.laws.proofs.Tests.{true-false}
 use Rattle.protocol.specs.Plan.{Plan, stop, check, take, settle, andThen}
 
 module _ {A B : Type 0} (bad : ℕ → B) (good : A → B) where
@@ -45,3 +46,25 @@ pub stops-then : {A B : Type 0} (P : ℕ → Type 0) (f : A → B) (p : Plan A) 
 stops-then P f (stop n) h = h
 stops-then P f (check b n p) h = (h .0, stops-then P f p (h .1))
 stops-then P f (take a) h = tt
+
+-- what a rule comes to where it takes exactly by the test
+pub exact-takes : {A B : Type 0} (bad : ℕ → B) (good : A → B) (P : A → Type 0) (t : Bool) (p : Plan A) → Exactly t p → Takes P p → t ≡ true
+    → (a : A) × (settle bad good p ≡ good a) × P a
+unfolding settle
+exact-takes bad good P t (stop n) h k e = absurd (true-false e h)
+exact-takes bad good P t (check true n p) h k e = absurd (true-false e (h .0 refl))
+exact-takes bad good P t (check false n p) h k e = exact-takes bad good P t p (h .1 refl) (k refl) e
+exact-takes bad good P t (take a) h k e = (a, refl, k)
+
+-- what holds of everything holds of all that a rule can take
+pub takes-all : {A : Type 0} {P : A → Type 0} → ((a : A) → P a) → (p : Plan A) → Takes P p
+takes-all f (stop n) = tt
+takes-all f (check b n p) = λ e. takes-all f p
+takes-all f (take a) = f a
+
+pub exact-stops : {A B : Type 0} (bad : ℕ → B) (good : A → B) (t : Bool) (p : Plan A) → Exactly t p → t ≡ false → (n : ℕ) × (settle bad good p ≡ bad n)
+unfolding settle
+exact-stops bad good t (stop n) h e = (n, refl)
+exact-stops bad good t (check true n p) h e = (n, refl)
+exact-stops bad good t (check false n p) h e = exact-stops bad good t p (h .1 refl) e
+exact-stops bad good t (take a) h e = absurd (true-false h e)
