@@ -10,6 +10,7 @@ use lib.Dec.{ltb}
 use lib.ListN.{length, take, drop, length-append, length-drop, take-append-drop}
 use lib.Seq.{length-take-le, take-add, drop-drop, getD-drop, take-append-seam, drop-append-seam, drop-append-add}
 use borrow.Author.Tests.{ltb-false}
+use denote.Ref.{RefT, now}
 use Rattle.laws.specs.Pick.{pick}
 use Rattle.laws.specs.Result.{Result, ok, refused, violation}
 use Rattle.laws.proofs.Lists.{Bytes}
@@ -17,25 +18,13 @@ use Rattle.laws.proofs.Results.{refused-not-ok, violation-not-ok}
 use Rattle.wire.specs.declared.Role.{Role}
 use Rattle.wire.specs.declared.Message.{Message}
 use Rattle.wire.specs.Message.{bodyLength, readMessage, header, numberOf, writable}
-use Rattle.wire.proofs.Inverse.{header-told}
+use Rattle.wire.proofs.Inverse.{header-parsed}
 use Rattle.wire.proofs.Laws.{message-holds, read-written, write-read, read-writable}
 use Rattle.wire.proofs.Writing.{writable-has}
-use Rattle.capture.specs.Capture.{messageAt, placeAfter}
-use Rattle.capture.specs.Reading.{Whole, written, Reading, wholeAt, andThen, readUpTo, readAll}
+use Rattle.capture.specs.declared.Reader.{Reader}
+use Rattle.capture.specs.Capture.{firstPlace, messageAt, placeAfter, opened}
+use Rattle.capture.specs.Reading.{Whole, written, Reading, wholeAt, andThen, readUpTo, readAll, readBy, EachWritable, Exact}
 use Rattle.capture.proofs.Steps.{within}
-
--- each message is one that the writer writes with its body
-abbrev pub EachWritable : Role → List Whole → Type 0
-EachWritable from [] = Unit {0}
-EachWritable from (w ∷ ws) =
-    (numberOf (w .message) < 65_536) × (writable from (w .message) (length (w .body)) ≡ true) × EachWritable from ws
-
--- the messages' bytes, one after the other, are the capture's from the place up to the end, and there no message stands
-pub record Exact (from : Role) (s : List ℕ) (place : ℕ) (r : Reading) : Type 0 where
-  pub each : EachWritable from (r .messages)
-  pub bytes : written (r .messages) ≡ take (r .end - place) (drop place s)
-  pub ends : r .end ≡ place + length (written (r .messages))
-  pub stops : (m : Message) → messageAt from s (r .end) ≡ ok m → ⊥
 
 -- what a capture with a message at a place has there
 record Stands (from : Role) (s : List ℕ) (place : ℕ) (m : Message) : Type 0 where
@@ -72,7 +61,7 @@ module _ (from : Role) (s : List ℕ) (bytes : Bytes s) where
     number : numberOf m < 65_536
     number =
         let d = bytes-from place in
-        let t = header-told from _ _ _ _ (d 0) (d 1) (d 2) (d 3) m (message-holds from (drop place s) m (at .reads) .says) in
+        let t = header-parsed from _ _ _ _ (d 0) (d 1) (d 2) (d 3) m (message-holds from (drop place s) m (at .reads) .reads) in
         let high = d 2 in
         let low = d 3 in
         omega (arith, t .number)
@@ -223,3 +212,22 @@ module _ (from : Role) (s : List ℕ) where
 -- until the first refusal the reader gives exactly the messages whose bytes the capture has, from any place, and it ends
 pub read-exactly : (from : Role) (s : List ℕ) → Bytes s → (place : ℕ) (r : Reading) → (r ≡ readAll from s place) ↔ Exact from s place r
 read-exactly from s bytes place r = (λ e. subst (Exact from s place) (sym e) (all-exact from s bytes place), all-only from s place r)
+
+-- ---- a reader that is asked again and again reads the same
+
+read-by : (n : ℕ) (from : Role) (r : Reader) → readBy n from r ≡ readUpTo n from (now (r .capture)) (r .place)
+unfolding readBy readUpTo
+read-by zero from r = refl
+read-by (suc n) from r =
+    let m = messageAt from (now (r .capture)) (r .place) in
+    let next : Reader = record { capture = r .capture; place = placeAfter (r .place) (messageAt from (now (r .capture)) (r .place)) } in
+    ap (andThen (now (r .capture)) (r .place) m) (read-by n from next)
+
+-- made on a capture and asked until its first refusal, it gives exactly the messages whose bytes the capture has
+pub reader-exactly : (from : Role) (capture : RefT (List ℕ)) → Bytes (now capture) → (r : Reading)
+    → (r ≡ readBy (length (now capture)) from (opened capture)) ↔ Exact from (now capture) firstPlace r
+unfolding readAll
+reader-exactly from capture bytes r =
+    let same = read-by (length (now capture)) from (opened capture) in
+    let law = read-exactly from (now capture) bytes firstPlace r in
+    ((λ e. law .0 (e ∙ same)), λ x. law .1 x ∙ sym same)

@@ -2,3 +2,4 @@
 mod Held
 pub mod Steps
 pub mod Laws
+pub mod Answers

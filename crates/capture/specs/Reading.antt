@@ -1,12 +1,16 @@
 -- What the reader gives from a place until its first refusal, and the bytes of messages one after the other.
-use Prim.Native.Nat.{ℕ, zero, suc, _+_}
+use Prim.Native.Nat.{ℕ, zero, suc, _+_, _-_, _<_}
+use mathlib.Core.Path.{_≡_}
+use mathlib.Core.Bool.{true}
 use mathlib.Core.List.{List, [], _∷_, _++_}
 use lib.ListN.{length, take, drop}
+use denote.Ref.{now}
 use Rattle.laws.specs.Result.{Result, ok, refused, violation}
 use Rattle.wire.specs.declared.Role.{Role}
 use Rattle.wire.specs.declared.Message.{Message}
-use Rattle.wire.specs.Message.{bodyLength, header}
-use Rattle.capture.specs.Capture.{messageAt, placeAfter}
+use Rattle.wire.specs.Message.{bodyLength, header, numberOf, writable}
+use Rattle.capture.specs.declared.Reader.{Reader}
+use Rattle.capture.specs.Capture.{messageAt, placeAfter, advanced}
 
 -- a message with the bytes that follow its header
 pub record Whole : Type 0 where
@@ -43,3 +47,23 @@ readUpTo (suc n) from capture place =
 -- reading from a place until the first refusal: a capture has no more messages than bytes
 unfoldable pub readAll : Role → List ℕ → ℕ → Reading
 readAll from capture place = readUpTo (length capture) from capture place
+
+-- the same by a reader that is asked again and again, at most so often
+unfoldable pub readBy : ℕ → Role → Reader → Reading
+readBy zero from r = record { messages = []; end = r .place }
+readBy (suc n) from r = andThen (now (r .capture)) (r .place) (advanced from r .0) (readBy n from (advanced from r .1))
+
+-- ---- what is claimed of a reading
+
+-- each message is one that the writer writes with its body
+abbrev pub EachWritable : Role → List Whole → Type 0
+EachWritable from [] = Unit {0}
+EachWritable from (w ∷ ws) =
+    (numberOf (w .message) < 65_536) × (writable from (w .message) (length (w .body)) ≡ true) × EachWritable from ws
+
+-- the messages' bytes, one after the other, are the capture's from the place up to the end, and there no message stands
+pub record Exact (from : Role) (s : List ℕ) (place : ℕ) (r : Reading) : Type 0 where
+  pub each : EachWritable from (r .messages)
+  pub bytes : written (r .messages) ≡ take (r .end - place) (drop place s)
+  pub ends : r .end ≡ place + length (written (r .messages))
+  pub stops : (m : Message) → messageAt from s (r .end) ≡ ok m → ⊥

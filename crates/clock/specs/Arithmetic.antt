@@ -45,7 +45,7 @@ larger x y = cond (lt x y) y x
 abbrev pub smaller : Float → Float → Float
 smaller x y = cond (lt y x) y x
 
--- the smaller subtracted from the larger; x from y where they are equal, so that the distance of -0 and 0 is 0
+-- the smaller subtracted from the larger; x from y where they are equal, so that the distance of -0 and a sample of 0 is 0
 abbrev pub distance : Float → Float → Float
 distance x y = cond (lt y x) (x ⊖ y) (y ⊖ x)
 

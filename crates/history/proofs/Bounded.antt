@@ -27,7 +27,7 @@ use Rattle.protocol.proofs.Views.{ready-look}
 use Rattle.history.specs.Log.{Call, turn, State, Entry, decide, payloadOf, nextBy, outBy, next, out, made}
 use Rattle.history.specs.Log as log
 use Rattle.history.specs.Account.{Line, Account, observed}
-use Rattle.history.specs.Claims.{ready, dataNumber, dataWritten, isTurn, lastServed, waitingBytes, Serves, NothingReady, Turns, BoundedWaiting}
+use Rattle.history.specs.Claims.{ready, dataNumber, dataWritten, isTurn, lastServed, waitingBytes, Serves, MayTurn, NothingReady, Turns, BoundedWaiting}
 use Rattle.history.proofs.Good.{Ok, setupOf, lineOf, holds, one}
 use Rattle.history.proofs.Receives.{GoodBy}
 use Rattle.history.proofs.Simulation.{observed-is, run-made, made-ok, own-ok, same-setup, decide-good, next-ok, queue-refused, queue-violated}
@@ -156,10 +156,13 @@ module _ (setup : Setup) (hh : setup .header < 65_536) (queue : List ℕ) (ks : 
       let st = log.run setup queue ks in
       let line : observed setup 0 (log.log setup queue ks) .line ≡ lineOf (log.run setup queue ks .connection) = ap (λ (z : Account). z .line) (observed-is setup hh queue ks 0 (omega arith)) in
       record {
-        not-over = ap (λ (l : Line). l .over) line ∙ cl .not-over;
-        up = ap (λ (l : Line). exchanged (l .stage)) line ∙ cl .up;
-        roomy = cl .roomy;
-        whole-queue = sym (run-long setup (made setup queue) ks (made-ok setup hh queue)) ∙ cl .whole-queue;
+        may =
+            record {
+              not-over = ap (λ (l : Line). l .over) line ∙ cl .not-over;
+              up = ap (λ (l : Line). exchanged (l .stage)) line ∙ cl .up;
+              roomy = cl .roomy;
+              whole-queue = sym (run-long setup (made setup queue) ks (made-ok setup hh queue)) ∙ cl .whole-queue;
+            };
         none = λ n hn. sym (told n hn) ∙ not-ready n hn (ask.ready (at (st .connection) n)) refl;
       }
     where
@@ -169,7 +172,7 @@ module _ (setup : Setup) (hh : setup .header < 65_536) (queue : List ℕ) (ks : 
           absurd (true-false (nearest-found (λ i. ask.ready (at (log.run setup queue ks .connection) i)) (log.run setup queue ks .connection .last) n (o .last) hn e .passes) h)
 
   -- and where nothing is ready, a turn is refused with 9
-  clear : NothingReady setup (length queue) (log.log setup queue ks) (length room) → Clear (log.run setup queue ks) (length room)
+  clear : MayTurn setup (length queue) (log.log setup queue ks) (length room) → Clear (log.run setup queue ks) (length room)
   clear z =
       let line : observed setup 0 (log.log setup queue ks) .line ≡ lineOf (log.run setup queue ks .connection) = ap (λ (a : Account). a .line) (observed-is setup hh queue ks 0 (omega arith)) in
       record {
@@ -180,12 +183,20 @@ module _ (setup : Setup) (hh : setup .header < 65_536) (queue : List ℕ) (ks : 
       }
 
   says-9 : Here → NothingReady setup (length queue) (log.log setup queue ks) (length room) → out (log.run setup queue ks) (turn room) .answer ≡ refused 9
-  says-9 (early j h1 h2 e) z = absurd (h2 (clear z))
+  says-9 (early j h1 h2 e) z = absurd (h2 (clear (z .may)))
   says-9 (none cl h e) z = answers (refuse 9) e
   says-9 (taken cl h t q e) z = absurd (true-false (sym (told (nextReady (log.run setup queue ks .connection)) inside) ∙ h) (z .none (nextReady (log.run setup queue ks .connection)) inside))
 
+  served-some : Here → MayTurn setup (length queue) (log.log setup queue ks) (length room) → (n : ℕ) → n < 128 → ready setup n (log.log setup queue ks) ≡ true
+      → (k : ℕ) × (out (log.run setup queue ks) (turn room) .answer ≡ ok (served k))
+  served-some (early j h1 h2 e) z n hn r = absurd (h2 (clear z))
+  served-some (none cl h e) z n hn r =
+      let c = log.run setup queue ks .connection in
+      absurd (true-false (nearest-found (λ i. ask.ready (at c i)) (c .last) n (o .last) hn (told n hn ∙ r) .passes) h)
+  served-some (taken cl h t q e) z n hn r = (nextReady (log.run setup queue ks .connection), answers _ e)
+
   turns-calls : Turns setup (length queue) (log.log setup queue ks) (out (log.run setup queue ks) (turn room)) (length room)
-  turns-calls = record { served-one = served-one here; refused-9 = (nothing-ready here, says-9 here) }
+  turns-calls = record { served-one = served-one here; served-some = served-some here; refused-9 = (nothing-ready here, says-9 here) }
 
 -- ---- of every entry of a log
 

@@ -32,8 +32,8 @@ pub record Line : Type 0 where
   pub stage : Stage
   pub ping : Ping
 
-abbrev pub finished : Line → Line
-finished l = record { over = true; stage = l .stage; ping = l .ping }
+abbrev pub withOver : Line → Line
+withOver l = record { over = true; stage = l .stage; ping = l .ping }
 
 abbrev pub withStage : Stage → Line → Line
 withStage s l = record { over = l .over; stage = s; ping = l .ping }
@@ -52,17 +52,17 @@ lineByCall l (grant n amount room) = l
 lineByCall l (abort n partial room) = l
 lineByCall l (close n room) = l
 lineByCall l (log.ping cookie room) = withPing (ping.Outstanding cookie) l
-lineByCall l (shutdown room) = finished l
-lineByCall l lost = finished l
+lineByCall l (shutdown room) = withOver l
+lineByCall l lost = withOver l
 lineByCall l (receive input room) = l
 
 -- and so do a Shutdown or an Error taken
 abbrev pub lineByMessage : Line → Message → Line
 lineByMessage l (msg.NoOperation n) = l
-lineByMessage l (msg.Shutdown n) = finished l
+lineByMessage l (msg.Shutdown n) = withOver l
 lineByMessage l (msg.Ping k) = l
 lineByMessage l (msg.PingAck k) = withPing ping.None l
-lineByMessage l (msg.Error n) = finished l
+lineByMessage l (msg.Error n) = withOver l
 lineByMessage l (msg.IncrementRation s i n) = l
 lineByMessage l (msg.Abort p i n) = l
 lineByMessage l (msg.Close i) = l
@@ -79,7 +79,7 @@ lineByReport l k (message m late) = lineByMessage l m
 abbrev pub lineByAnswer : Line → Call → Result Report → Line
 lineByAnswer l k (ok r) = lineByReport l k r
 lineByAnswer l k (refused n) = l
-lineByAnswer l k (violation n) = finished l
+lineByAnswer l k (violation n) = withOver l
 
 abbrev pub lineAfter : Line → Entry → Line
 lineAfter l e = lineByAnswer l (e .call) (e .answer)

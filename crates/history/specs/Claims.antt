@@ -111,16 +111,22 @@ pub record Serves (s : Setup) (a : List Entry) (e : Entry) (k : ℕ) : Type 0 wh
       ≡ wire.header (numbered k (dueData (observed s k a .seen .sends)))
       ++ take (wire.bodyLength (numbered k (dueData (observed s k a .seen .sends)))) (waitingBytes (observed s k a .seen .sends))
 
--- no number is ready and no earlier check refuses the turn
-pub record NothingReady (s : Setup) (queue : ℕ) (a : List Entry) (room : ℕ) : Type 0 where
+-- no check before the search for a ready number refuses the turn
+pub record MayTurn (s : Setup) (queue : ℕ) (a : List Entry) (room : ℕ) : Type 0 where
   pub not-over : observed s 0 a .line .over ≡ false
   pub up : exchanged (observed s 0 a .line .stage) ≡ true
   pub roomy : turnRoom ≤ room
   pub whole-queue : queue ≡ queueSize
+
+-- and no number is ready
+pub record NothingReady (s : Setup) (queue : ℕ) (a : List Entry) (room : ℕ) : Type 0 where
+  pub may : MayTurn s queue a room
   pub none : (n : ℕ) → n < 128 → ready s n a ≡ false
 
 pub record Turns (s : Setup) (queue : ℕ) (a : List Entry) (e : Entry) (room : ℕ) : Type 0 where
   pub served-one : (r : Report) → e .answer ≡ ok r → (k : ℕ) × (r ≡ served k) × (dataWritten s e ≡ k ∷ []) × Serves s a e k
+  -- where some number is ready, one is served
+  pub served-some : MayTurn s queue a room → (n : ℕ) → n < 128 → ready s n a ≡ true → (k : ℕ) × (e .answer ≡ ok (served k))
   pub refused-9 : (e .answer ≡ refused 9) ↔ NothingReady s queue a room
 
 -- the third demand, of one log

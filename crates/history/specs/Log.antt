@@ -1,5 +1,5 @@
 -- The calls of one end, what each leaves, and the entry that it adds to the log.
-use Prim.Native.Nat.{ℕ, _<_}
+use Prim.Native.Nat.{ℕ}
 use mathlib.Core.Bool.{Bool}
 use mathlib.Core.List.{List, []}
 use lib.ListN.{length}
@@ -27,21 +27,6 @@ pub data Call : Type 0 where
   shutdown : (room : List ℕ) → Call
   lost : Call
   receive : (input room : List ℕ) → Call
-
--- a cookie has 16 bits
-abbrev pub Typed : Call → Type 0
-Typed (start room) = Unit {0}
-Typed (open-session n) = Unit {0}
-Typed (put n bytes) = Unit {0}
-Typed (finish n) = Unit {0}
-Typed (turn room) = Unit {0}
-Typed (grant n amount room) = Unit {0}
-Typed (abort n partial room) = Unit {0}
-Typed (close n room) = Unit {0}
-Typed (ping cookie room) = cookie < 65_536
-Typed (shutdown room) = Unit {0}
-Typed lost = Unit {0}
-Typed (receive input room) = Unit {0}
 
 abbrev pub decide : Connection → List ℕ → Call → Decision
 decide c q (start room) = decided (startRule c (length room))

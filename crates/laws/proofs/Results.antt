@@ -18,3 +18,6 @@ refused-same e = cc
 
 pub violation-not-refused : {A : Type 0} {n m : ℕ} → _≡_ {A = Result A} (violation n) (refused m) → ⊥
 violation-not-refused e = let z : _≡_ {A = ℕ} 0 1 = cc in omega arith
+
+pub violation-same : {A : Type 0} {n m : ℕ} → _≡_ {A = Result A} (violation n) (violation m) → n ≡ m
+violation-same e = cc

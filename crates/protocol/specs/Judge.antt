@@ -139,7 +139,7 @@ commit c e =
 
 -- ---- the judging of a message
 
--- a server that has not sent its header sends it before the Error
+-- a server that has not sent its header sends it before the Error; a client that is not started receives nothing
 abbrev pub errorAfter : Stage → ℕ → List Out
 errorAfter (stage.Fresh r) own = opening own ∷ sent (msg.Error 0) ∷ []
 errorAfter stage.Started own = sent (msg.Error 0) ∷ []

@@ -15,7 +15,7 @@ abbrev pub codes : String → List ℕ
 codes [] = list.[]
 codes (c ∷ s) = list._∷_ (code c) (codes s)
 
--- how many decimal digits a number has, of which so many are not its first
+-- how many decimal digits a number has, at most k + 1
 unfoldable pub places : ℕ → ℕ → ℕ
 places zero n = 1
 places (suc k) n = pick (ltb n 10) 1 (places k (n / 10) + 1)
@@ -24,6 +24,7 @@ places (suc k) n = pick (ltb n 10) 1 (places k (n / 10) + 1)
 unfoldable pub decimal : ℕ → List ℕ
 decimal n = digits 10 (places 19 n) n
 
+-- what stands behind a line's end is no text and the program's choice; a length above 128 is a full line's
 abbrev pub lineText : Line → List ℕ
 lineText l = take (l .length) (l .bytes)
 

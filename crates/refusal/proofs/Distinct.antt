@@ -1,0 +1,78 @@
+-- No two refusals and no two violations have the same number: from a table that gives each back.
+use mathlib.Core.Path.{_≡_, refl, sym, ap, _∙_}
+use mathlib.Core.List.{List, [], _∷_}
+use Prim.Native.Nat.{ℕ, _-_}
+use lib.ListN.{getD}
+use Rattle.refusal.specs.declared.Refusal.{Refusal}
+use Rattle.refusal.specs.declared.Refusal.the-variants as refusal
+use Rattle.refusal.specs.declared.Violation.{Violation}
+use Rattle.refusal.specs.declared.Violation.the-variants as violation
+use Rattle.refusal.specs.Number.{refusalNumber, violationNumber}
+
+-- the refusal of each number from 0 on; a number that no refusal has stands for the first
+refusals : List Refusal
+refusals =
+    refusal.NotExchanged
+    ∷ refusal.NotExchanged
+    ∷ refusal.Over
+    ∷ refusal.NoSuchSession
+    ∷ refusal.WrongRole
+    ∷ refusal.WrongState
+    ∷ refusal.SlotFull
+    ∷ refusal.GrantTooLarge
+    ∷ refusal.WrongRoom
+    ∷ refusal.NothingReady
+    ∷ refusal.Incomplete
+    ∷ refusal.NotExchanged
+    ∷ refusal.BadValue
+    ∷ refusal.PingOutstanding
+    ∷ refusal.IllFormed
+    ∷ []
+
+given-back : (r : Refusal) → getD refusals (refusalNumber r) refusal.NotExchanged ≡ r
+unfolding refusals
+given-back refusal.NotExchanged = refl
+given-back refusal.Over = refl
+given-back refusal.NoSuchSession = refl
+given-back refusal.WrongRole = refl
+given-back refusal.WrongState = refl
+given-back refusal.SlotFull = refl
+given-back refusal.GrantTooLarge = refl
+given-back refusal.WrongRoom = refl
+given-back refusal.NothingReady = refl
+given-back refusal.Incomplete = refl
+given-back refusal.BadValue = refl
+given-back refusal.PingOutstanding = refl
+given-back refusal.IllFormed = refl
+
+pub same-refusal : (a b : Refusal) → refusalNumber a ≡ refusalNumber b → a ≡ b
+same-refusal a b e = sym (given-back a) ∙ ap (λ (n : ℕ). getD refusals n refusal.NotExchanged) e ∙ given-back b
+
+-- the violation of each number from 20 on
+violations : List Violation
+violations =
+    violation.UnknownType
+    ∷ violation.ReservedBit
+    ∷ violation.BadHeader
+    ∷ violation.WrongSender
+    ∷ violation.WrongFlags
+    ∷ violation.WrongState
+    ∷ violation.AboveRation
+    ∷ violation.PastLargest
+    ∷ violation.UnaskedPingAck
+    ∷ []
+
+violation-back : (v : Violation) → getD violations (violationNumber v - 20) violation.UnknownType ≡ v
+unfolding violations
+violation-back violation.UnknownType = refl
+violation-back violation.ReservedBit = refl
+violation-back violation.BadHeader = refl
+violation-back violation.WrongSender = refl
+violation-back violation.WrongFlags = refl
+violation-back violation.WrongState = refl
+violation-back violation.AboveRation = refl
+violation-back violation.PastLargest = refl
+violation-back violation.UnaskedPingAck = refl
+
+pub same-violation : (a b : Violation) → violationNumber a ≡ violationNumber b → a ≡ b
+same-violation a b e = sym (violation-back a) ∙ ap (λ (n : ℕ). getD violations (n - 20) violation.UnknownType) e ∙ violation-back b

@@ -1,0 +1,2 @@
+-- What follows from the numbers.
+pub mod Distinct
