@@ -127,8 +127,8 @@ module _ (s : State) (o : Ok (setupOf (s .connection)) s) (input room : List ℕ
   whole-good (msg.Data b c f a i n) up w = tt
 
   session-message : (m : Message) (i : ℕ) (sm : SessionMessage) → scope m ≡ of-session i sm → exchanged (s .connection .stage) ≡ true → i < 128
-      → (t : Taken) → Sound (roleOf (s .connection .stage)) (ownStart (s .connection)) (farStart (s .connection)) (at (s .connection) i) (slot i (s .queue)) (received sm (t .late) ∷ []) [] (slot i (s .queue)) false t
-      → ForSession (setupOf (s .connection)) s (receive input room) i (s .connection .last) (message m (t .late)) (received sm (t .late) ∷ []) false t
+      → (t : Taken) → Sound (roleOf (s .connection .stage)) (ownStart (s .connection)) (farStart (s .connection)) (at (s .connection) i) (slot i (s .queue)) (received sm ∷ []) [] (slot i (s .queue)) false t
+      → ForSession (setupOf (s .connection)) s (receive input room) i (s .connection .last) (message m (t .late)) (received sm ∷ []) false t
   session-message m i sm e up hi t snd =
       record {
         mark = refl;
@@ -137,8 +137,8 @@ module _ (s : State) (o : Ok (setupOf (s .connection)) s) (input room : List ℕ
         last-inside = o .last;
         up = up;
         sound = snd;
-        told = ap (inScope i (λ z. received z (t .late))) e ∙ only-own i (received sm (t .late));
-        not-told = λ n d. ap (inScope n (λ z. received z (t .late))) e ∙ only-other n i (received sm (t .late)) d;
+        told = ap (inScope i received) e ∙ only-own i (received sm);
+        not-told = λ n d. ap (inScope n received) e ∙ only-other n i (received sm) d;
         frame = λ _ _ _. refl;
         long = refl;
         line = scope-line (lineOf (s .connection)) m i sm e;
@@ -152,7 +152,7 @@ module _ (s : State) (o : Ok (setupOf (s .connection)) s) (input room : List ℕ
       judged s (receive input room) (λ t. accept (with-session (s .connection) i (s .connection .last) (message m (t .late)) t))
       (receipt (roleOf (s .connection .stage)) (ownStart (s .connection)) (farStart (s .connection)) (at (s .connection) i) sm)
       (takes-map
-      (λ t snd. session-good (setupOf (s .connection)) s (receive input room) i (s .connection .last) (message m (t .late)) (received sm (t .late) ∷ []) false t o
+      (λ t snd. session-good (setupOf (s .connection)) s (receive input room) i (s .connection .last) (message m (t .late)) (received sm ∷ []) false t o
       (session-message m i sm e up hi t snd))
       (receipt (roleOf (s .connection .stage)) (ownStart (s .connection)) (farStart (s .connection)) (at (s .connection) i) sm)
       (receipt-sound (roleOf (s .connection .stage)) (ownStart (s .connection)) (farStart (s .connection)) (at (s .connection) i) (slot i (s .queue))

@@ -26,13 +26,14 @@ use Rattle.protocol.specs.Receipt.{Taken, receipt}
 use Rattle.protocol.specs.Connection.{at, roleOf, exchanged, ownStart, farStart, wellFormed}
 use Rattle.protocol.specs.Judge.{message, Effect, Decision, refuse, accept, with-session, breach, matches, judgeWhole, judgeScope, judge}
 use Rattle.protocol.specs.Call.{otherEnd, unstarted, messageTaken, reading, receiveRule}
-use Rattle.protocol.specs.Observed.{mayArrive}
-use Rattle.protocol.proofs.Plans.{passes, Takes, Exactly, exact-takes, exact-stops, takes-all}
+use Rattle.protocol.specs.Observed.{lateFor, mayArrive}
+use Rattle.protocol.proofs.Plans.{passes, Takes, Exactly, exact-takes, exact-stops, takes-map}
+use Rattle.protocol.proofs.Late.{receipt-late}
 use Rattle.protocol.proofs.Exact.{once, Possible, receipt-exact}
 use Rattle.history.specs.Log.{Call, receive, State, Entry, outBy, out}
 use Rattle.history.specs.Log as log
 use Rattle.history.specs.Account.{Line, Account, observed}
-use Rattle.history.specs.Claims.{Listening, wholeMayArrive, mayCome, TakesExactly}
+use Rattle.history.specs.Claims.{Listening, wholeMayArrive, mayCome, lateOf, TakesExactly}
 use Rattle.history.proofs.Good.{Ok, lineOf, holds}
 use Rattle.history.proofs.Steps.{formed-up}
 use Rattle.history.proofs.Receives.{scope-number}
@@ -77,15 +78,15 @@ whole-exact c (msg.Close i) = refl
 whole-exact c (msg.Acknowledgment i) = refl
 whole-exact c (msg.Data o k e a i n) = refl
 
-abbrev Reports : Message → Effect → Type 0
-Reports m e = (late : Bool) × (e .report ≡ message m late)
+abbrev Reports : Message → Bool → Effect → Type 0
+Reports m late e = e .report ≡ message m late
 
-whole-reports : (c : Connection) (m : Message) → Takes (Reports m) (judgeWhole c m)
-whole-reports c (msg.NoOperation n) = (false, refl)
-whole-reports c (msg.Shutdown n) = (false, refl)
-whole-reports c (msg.Ping k) = (false, refl)
-whole-reports c (msg.PingAck k) = λ _. (false, refl)
-whole-reports c (msg.Error n) = (false, refl)
+whole-reports : (c : Connection) (m : Message) → Takes (Reports m false) (judgeWhole c m)
+whole-reports c (msg.NoOperation n) = refl
+whole-reports c (msg.Shutdown n) = refl
+whole-reports c (msg.Ping k) = refl
+whole-reports c (msg.PingAck k) = λ _. refl
+whole-reports c (msg.Error n) = refl
 whole-reports c (msg.IncrementRation t i n) = tt
 whole-reports c (msg.Abort p i n) = tt
 whole-reports c (msg.Close i) = tt
@@ -121,22 +122,27 @@ module _ (s : State) (m : Message) where
   test whole = wholeMayArrive (s .connection .ping) m
   test (of-session i x) = mayArrive (roleOf (s .connection .stage)) (ownStart (s .connection)) (holds s i) x
 
+-- whether it is late, as the state holds it
+abbrev lateIn : State → Scope → Bool
+lateIn s whole = false
+lateIn s (of-session i x) = lateFor (holds s i .standing) x
+
 module _ (s : State) (k : Call) (m : Message) where
   -- taken, or a violation
-  abbrev Judged : Bool → Decision → Type 0
-  Judged t d = (t ≡ true → (late : Bool) × (outBy s k d .answer ≡ ok (message m late))) × (t ≡ false → (n : ℕ) × (outBy s k d .answer ≡ violation n))
+  abbrev Judged : Bool → Bool → Decision → Type 0
+  Judged t late d = (t ≡ true → outBy s k d .answer ≡ ok (message m late)) × (t ≡ false → (n : ℕ) × (outBy s k d .answer ≡ violation n))
 
-  by-plan : {A : Type 0} (good : A → Effect) (t : Bool) (p : Plan A) → Exactly t p → Takes (λ a. Reports m (good a)) p
-      → Judged t (settle (breach (s .connection)) (λ a. accept (good a)) p)
-  by-plan good t p h r = (yes-case, no-case)
+  by-plan : {A : Type 0} (good : A → Effect) (t late : Bool) (p : Plan A) → Exactly t p → Takes (λ a. Reports m late (good a)) p
+      → Judged t late (settle (breach (s .connection)) (λ a. accept (good a)) p)
+  by-plan good t late p h r = (yes-case, no-case)
     where
       D : Decision
       D = settle (breach (s .connection)) (λ a. accept (good a)) p
 
-      yes-case : t ≡ true → (late : Bool) × (outBy s k (settle (breach (s .connection)) (λ a. accept (good a)) p) .answer ≡ ok (message m late))
+      yes-case : t ≡ true → outBy s k (settle (breach (s .connection)) (λ a. accept (good a)) p) .answer ≡ ok (message m late)
       yes-case e =
-          let w = exact-takes (breach (s .connection)) (λ a. accept (good a)) (λ a. Reports m (good a)) t p h r e in
-          (w .2 .0, ap (λ (d : Decision). outBy s k d .answer) (w .1) ∙ ap ok (w .2 .1))
+          let w = exact-takes (breach (s .connection)) (λ a. accept (good a)) (λ a. Reports m late (good a)) t p h r e in
+          ap (λ (d : Decision). outBy s k d .answer) (w .1) ∙ ap ok (w .2)
 
       no-case : t ≡ false → (n : ℕ) × (outBy s k (settle (breach (s .connection)) (λ a. accept (good a)) p) .answer ≡ violation n)
       no-case e =
@@ -144,15 +150,15 @@ module _ (s : State) (k : Call) (m : Message) where
           (w .0, ap (λ (d : Decision). outBy s k d .answer) (w .1))
 
   by-scope : (setup : Setup) → Ok setup s → exchanged (s .connection .stage) ≡ true → Sent (otherEnd (roleOf (s .connection .stage))) m
-      → (z : Scope) → scope m ≡ z → Judged (test s m z) (judgeScope (s .connection) m z)
-  by-scope setup o up w whole e = by-plan (λ x. x) (test s m whole) (judgeWhole (s .connection) m) (whole-exact (s .connection) m) (whole-reports (s .connection) m)
+      → (z : Scope) → scope m ≡ z → Judged (test s m z) (lateIn s z) (judgeScope (s .connection) m z)
+  by-scope setup o up w whole e = by-plan (λ x. x) (test s m whole) false (judgeWhole (s .connection) m) (whole-exact (s .connection) m) (whole-reports (s .connection) m)
   by-scope setup o up w (of-session i x) e =
       let hi : i < 128 = subst (λ (n : ℕ). n < 128) (scope-number m i x e) (w .session) in
       let c = s .connection in
       let p = receipt (roleOf (c .stage)) (ownStart c) (farStart c) (at c i) x in
-      by-plan (λ (t : Taken). with-session c i (c .last) (message m (t .late)) t) (test s m (of-session i x)) p
+      by-plan (λ (t : Taken). with-session c i (c .last) (message m (t .late)) t) (test s m (of-session i x)) (lateIn s (of-session i x)) p
       (receipt-exact (roleOf (c .stage)) (ownStart c) (farStart c) (at c i) (slot i (s .queue)) x (formed-up s (own-ok setup s o) up i hi .place) (possible (roleOf (c .stage)) m i x e (w .flags)))
-      (takes-all (λ t. (t .late, refl)) p)
+      (takes-map (λ t e. ap (message m) e) p (receipt-late (roleOf (c .stage)) (at c i) (ownStart c) (farStart c) x))
 
 -- ---- of a log
 
@@ -169,8 +175,12 @@ module _ (setup : Setup) (hh : setup .header < 65_536) (queue : List ℕ) where
       ∙ ap (λ (n : ℕ). mayArrive (setup .role) (fromHeader n) (holds (log.run setup queue ks) i) x) (o .own)
       ∙ ap (λ (a : Account). mayArrive (setup .role) (fromHeader (setup .header)) (a .seen) x) (sym (observed-is setup hh queue ks i (h i x refl)))
 
+  late-is : (ks : List Call) (z : Scope) → ((i : ℕ) (x : SessionMessage) → z ≡ of-session i x → i < 128) → lateIn (log.run setup queue ks) z ≡ lateOf setup (log.log setup queue ks) z
+  late-is ks whole h = refl
+  late-is ks (of-session i x) h = ap (λ (a : Account). lateFor (a .seen .standing) x) (sym (observed-is setup hh queue ks i (h i x refl)))
+
   judged-calls : (ks : List Call) (input room : List ℕ) (m : Message) → Listening setup (log.log setup queue ks) (length room) → readMessage (otherEnd (setup .role)) input ≡ ok m
-      → (mayCome setup (log.log setup queue ks) m (scope m) ≡ true → (late : Bool) × (out (log.run setup queue ks) (receive input room) .answer ≡ ok (message m late)))
+      → (mayCome setup (log.log setup queue ks) m (scope m) ≡ true → out (log.run setup queue ks) (receive input room) .answer ≡ ok (message m (lateOf setup (log.log setup queue ks) (scope m))))
       × (mayCome setup (log.log setup queue ks) m (scope m) ≡ false → (n : ℕ) × (out (log.run setup queue ks) (receive input room) .answer ≡ violation n))
   unfolding out judge
   judged-calls ks input room m l q =
@@ -183,13 +193,14 @@ module _ (setup : Setup) (hh : setup .header < 65_536) (queue : List ℕ) where
       let w = message-sent (otherEnd (roleOf (s .connection .stage))) input m q′ in
       let d = judges (s .connection) input (length room) m (ok-formed setup s o) live up (l .roomy) q′ in
       let j = by-scope s (receive input room) m setup o up w (scope m) refl in
-      let t = may-is ks m (scope m) (λ i x e. subst (λ (n : ℕ). n < 128) (scope-number m i x e) (w .session)) in
+      let number : (i : ℕ) (x : SessionMessage) → scope m ≡ of-session i x → i < 128 = λ i x e. subst (λ (n : ℕ). n < 128) (scope-number m i x e) (w .session) in
+      let t = may-is ks m (scope m) number in
       let same = ap (λ (z : Decision). outBy s (receive input room) z .answer) d in
-      ((λ e. let y = j .0 (t ∙ e) in (y .0, same ∙ y .1)), λ e. let y = j .1 (t ∙ e) in (y .0, same ∙ y .1))
+      ((λ e. same ∙ j .0 (t ∙ e) ∙ ap (λ (b : Bool). ok (message m b)) (late-is ks (scope m) number)), λ e. let y = j .1 (t ∙ e) in (y .0, same ∙ y .1))
 
   Both : List Entry → Entry → Message → Type 0
   Both a e m =
-      (mayCome setup a m (scope m) ≡ true → (late : Bool) × (e .answer ≡ ok (message m late)))
+      (mayCome setup a m (scope m) ≡ true → e .answer ≡ ok (message m (lateOf setup a (scope m))))
       × (mayCome setup a m (scope m) ≡ false → (n : ℕ) × (e .answer ≡ violation n))
 
   judged-log : (a : List Entry) (e : Entry) (input room : List ℕ) (m : Message) → At setup queue a e → e .call ≡ receive input room → Listening setup a (length room)

@@ -113,7 +113,7 @@ abbrev pub reported : ℕ → Call → Report → List Event
 reported n k done = asked n k
 reported n k (served i) = []
 reported n k (header far) = []
-reported n k (message m late) = inScope n (λ s. received s late) (scope m)
+reported n k (message m late) = inScope n received (scope m)
 
 -- a message that is written, as the reader reads it
 abbrev pub writtenMessage : ℕ → Result Message → List Event

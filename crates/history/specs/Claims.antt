@@ -22,7 +22,7 @@ use Rattle.protocol.specs.Connection.{line-lost, exchanged, ended}
 use Rattle.protocol.specs.Judge.{Report, served, message, errorAfter, matches}
 use Rattle.protocol.specs.Call.{otherEnd}
 use Rattle.protocol.specs.Result.{bytesOfAll}
-use Rattle.protocol.specs.Observed.{Sending, silent, sending, isReady, anyLapse, dueData, mayArrive}
+use Rattle.protocol.specs.Observed.{Sending, silent, sending, isReady, anyLapse, dueData, lateFor, mayArrive}
 use Rattle.history.specs.Log.{Call, start, open-session, put, finish, turn, grant, abort, close, ping, shutdown, lost, receive, State, Entry, decide, gives, next, out}
 use Rattle.history.specs.Account.{lineAfter, events, observed, blankAccount}
 
@@ -177,10 +177,15 @@ abbrev pub mayCome : Setup → List Entry → Message → Scope → Bool
 mayCome s a m whole = wholeMayArrive (observed s 0 a .line .ping) m
 mayCome s a m (of-session i x) = mayArrive (s .role) (fromHeader (s .header)) (observed s i a .seen) x
 
+-- a message is late where it crossed our end of its session
+abbrev pub lateOf : Setup → List Entry → Scope → Bool
+lateOf s a whole = false
+lateOf s a (of-session i x) = lateFor (observed s i a .seen .standing) x
+
 pub record TakesExactly (s : Setup) (log : List Entry) : Type 0 where
   pub takes : (a c : List Entry) (e : Entry) (input room : List ℕ) (m : Message) → log ≡ a ++ (e ∷ c) → e .call ≡ receive input room
       → Listening s a (length room) → readMessage (otherEnd (s .role)) input ≡ ok m
-      → mayCome s a m (scope m) ≡ true → (late : Bool) × (e .answer ≡ ok (message m late))
+      → mayCome s a m (scope m) ≡ true → e .answer ≡ ok (message m (lateOf s a (scope m)))
   pub else-violated : (a c : List Entry) (e : Entry) (input room : List ℕ) (m : Message) → log ≡ a ++ (e ∷ c) → e .call ≡ receive input room
       → Listening s a (length room) → readMessage (otherEnd (s .role)) input ≡ ok m
       → mayCome s a m (scope m) ≡ false → (n : ℕ) × (e .answer ≡ violation n)

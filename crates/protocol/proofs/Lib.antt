@@ -8,3 +8,4 @@ pub mod Turns
 pub mod Receipts
 pub mod Exact
 pub mod Numbers
+pub mod Late

@@ -56,12 +56,6 @@ exact-takes bad good P t (check true n p) h k e = absurd (true-false e (h .0 ref
 exact-takes bad good P t (check false n p) h k e = exact-takes bad good P t p (h .1 refl) (k refl) e
 exact-takes bad good P t (take a) h k e = (a, refl, k)
 
--- what holds of everything holds of all that a rule can take
-pub takes-all : {A : Type 0} {P : A → Type 0} → ((a : A) → P a) → (p : Plan A) → Takes P p
-takes-all f (stop n) = tt
-takes-all f (check b n p) = λ e. takes-all f p
-takes-all f (take a) = f a
-
 pub exact-stops : {A B : Type 0} (bad : ℕ → B) (good : A → B) (t : Bool) (p : Plan A) → Exactly t p → t ≡ false → (n : ℕ) × (settle bad good p ≡ bad n)
 unfolding settle
 exact-stops bad good t (stop n) h e = (n, refl)

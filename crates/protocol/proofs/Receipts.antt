@@ -25,7 +25,7 @@ use Rattle.protocol.specs.Message.{SessionMessage, data-of, increment-of
 use Rattle.protocol.specs.Session.{afterData, follow, sided, settled, received as spent, incremented}
 use Rattle.protocol.specs.Receipt.{Taken, quietly, replying, aborted, dataTo, incrementTo, abortTo, closeTo, arriving, other, acceptable, accepted, receipt}
 use Rattle.protocol.specs.Ask.{sends, positive}
-use Rattle.protocol.specs.Observed.{received, Sending, silent, sending, isReady, lapses, sendsAfter, endsAfter, inboundAfter, Ends, ends, ours, theirs, withIncrement, observe, established, permitsOurs}
+use Rattle.protocol.specs.Observed.{received, Sending, silent, sending, isReady, lapses, sendsAfter, endsAfter, counted, inboundAfter, Ends, ends, ours, theirs, withIncrement, observe, established, permitsOurs}
 use Rattle.protocol.proofs.Plans.{Takes}
 use Rattle.protocol.proofs.Views.{endsOf, sendsOf, look, Formed, seen-path}
 use Rattle.protocol.proofs.Sound.{Sound}
@@ -73,7 +73,7 @@ increment-ready (sending false (b ∷ w) r f) n h = flat (positive (plus r n)) (
 module _ (r : Role) (own far : Ration) (x : Session) (s : List ℕ) (f : Formed r true x) where
   -- what is taken when the message m comes
   abbrev At : SessionMessage → Taken → Type 0
-  At m t = Sound r own far x s (received m (t .late) ∷ []) [] s false t
+  At m t = Sound r own far x s (received m ∷ []) [] s false t
 
   -- our side stays, theirs moves
   module _ (o t t′ : Side) (e : x .sides ≡ sides.Live o t) where
@@ -98,20 +98,20 @@ module _ (r : Role) (own far : Ration) (x : Session) (s : List ℕ) (f : Formed 
     kept-sends w q n = same-view far o t t′ w q n ∙ sym (ap (λ (z : Sides). sendsOf far z w q n) e)
 
   -- a reply Abort: our side, open or finished, ends
-  reply-sound : (m : SessionMessage) (o t t′ : Side) (y : Session) → x .sides ≡ sides.Live o t → established o ≡ true → lapses (received m false) ≡ true
-      → endsAfter (endsOf (x .sides)) (received m false) ≡ ends o t′ → inboundAfter own (x .inbound) (received m false) ≡ y .inbound
+  reply-sound : (m : SessionMessage) (o t t′ : Side) (y : Session) → x .sides ≡ sides.Live o t → established o ≡ true → lapses (received m) ≡ true
+      → endsAfter (endsOf (x .sides)) (received m) ≡ ends o t′ → inboundAfter own (endsOf (x .sides)) (x .inbound) (received m) ≡ y .inbound
       → inRange (y .outbound) ≡ true → inRange (y .inbound) ≡ true → Takes (At m) (replying r t′ y)
   unfolding fold
   reply-sound m o t t′ y e live lapse st ib ho hi =
       record {
         seen = seen-path (sym (ap (ours side.Ended) st)) refl (sym ib);
         formed = record { outbound = ho; inbound = hi; waiting = omega arith; none = refl; finish = refl; place = refl };
-        lasts = λ _ q _. absurd (true≢false (sym lapse ∙ or-first (lapses (received m false)) false q));
+        lasts = λ _ q _. absurd (true≢false (sym lapse ∙ or-first (lapses (received m)) false q));
         sends-data = refl;
         room = λ _. omega arith;
         lawful =
             record {
-              now = ap (λ (z : Ends). permitsOurs z (observe own far (look far x s) (received m false)) (abort-of (isServer r))) st ∙ live;
+              now = ap (λ (z : Ends). permitsOurs z (observe own far (look far x s) (received m)) (abort-of (isServer r))) st ∙ live;
               ours = own-partial r;
               fits = tt;
               body = omega arith;
@@ -121,7 +121,7 @@ module _ (r : Role) (own far : Ration) (x : Session) (s : List ℕ) (f : Formed 
   -- Data that gets no reply: our side stays
   data-kept : (n : ℕ) (close eof ack late : Bool) (o : Side) (y : Session) → x .sides ≡ sides.Live o side.Open
       → y .sides ≡ sides.Live o (afterData close eof) → y .outbound ≡ x .outbound → y .waiting ≡ x .waiting → y .finish ≡ x .finish
-      → inRange (y .inbound) ≡ true → y .inbound ≡ inboundAfter own (x .inbound) (received (data-of n false close eof ack) late)
+      → inRange (y .inbound) ≡ true → y .inbound ≡ inboundAfter own (endsOf (x .sides)) (x .inbound) (received (data-of n false close eof ack))
       → At (data-of n false close eof ack) (record { session = y; sent = []; late = late })
   unfolding fold
   data-kept n close eof ack late o y e z ob w fi hi ib =
@@ -137,25 +137,28 @@ module _ (r : Role) (own far : Ration) (x : Session) (s : List ℕ) (f : Formed 
         lawful = tt;
       }
 
+  counts : {z : Sides} (n : ℕ) → x .sides ≡ z → counted (endsOf z) (x .inbound) n ≡ counted (endsOf (x .sides)) (x .inbound) n
+  counts n e = sym (ap (λ (z : Sides). counted (endsOf z) (x .inbound) n) e)
+
   data-sound : (n : ℕ) (close eof ack : Bool) (o : Side) → x .sides ≡ sides.Live o side.Open
       → Takes (At (data-of n false close eof ack)) (dataTo r x n close o (afterData close eof))
-  data-sound n true eof ack side.Ended e = data-kept n true eof ack true side.Ended _ e refl refl refl refl (f .inbound) refl
-  data-sound n false eof ack side.Ended e = data-kept n false eof ack true side.Ended _ e refl refl refl refl (f .inbound) refl
+  data-sound n true eof ack side.Ended e = data-kept n true eof ack true side.Ended _ e refl refl refl refl (f .inbound) (counts n e)
+  data-sound n false eof ack side.Ended e = data-kept n false eof ack true side.Ended _ e refl refl refl refl (f .inbound) (counts n e)
   data-sound n true eof ack side.Finished e = λ _.
-      data-kept n true eof ack false side.Finished _ e refl refl refl refl (minus-in-range (x .inbound) n (f .inbound)) refl
+      data-kept n true eof ack false side.Finished _ e refl refl refl refl (minus-in-range (x .inbound) n (f .inbound)) (counts n e)
   data-sound n false eof ack side.Finished e = λ _.
-      data-kept n false eof ack false side.Finished _ e refl refl refl refl (minus-in-range (x .inbound) n (f .inbound)) refl
+      data-kept n false eof ack false side.Finished _ e refl refl refl refl (minus-in-range (x .inbound) n (f .inbound)) (counts n e)
   data-sound n true eof ack side.Open e = λ _.
-      reply-sound (data-of n false true eof ack) side.Open side.Open side.Ended (settled outcome.Complete (spent n x)) e refl refl (ap (λ (z : Sides). theirs side.Ended (endsOf z)) e) refl
+      reply-sound (data-of n false true eof ack) side.Open side.Open side.Ended (settled outcome.Complete (spent n x)) e refl refl (ap (λ (z : Sides). theirs side.Ended (endsOf z)) e) (sym (counts n e))
       (f .outbound) (minus-in-range (x .inbound) n (f .inbound))
   data-sound n false eof ack side.Open e = λ _.
-      data-kept n false eof ack false side.Open _ e refl refl refl refl (minus-in-range (x .inbound) n (f .inbound)) refl
+      data-kept n false eof ack false side.Open _ e refl refl refl refl (minus-in-range (x .inbound) n (f .inbound)) (counts n e)
 
   -- a message that changes nothing but where the far side stands
   moved-sound : (m : SessionMessage) (late : Bool) (o t t′ : Side) (y : Session) → x .sides ≡ sides.Live o t → y .sides ≡ sides.Live o t′
       → y .outbound ≡ x .outbound → y .inbound ≡ x .inbound → y .waiting ≡ x .waiting → y .finish ≡ x .finish
-      → theirs t′ (endsOf (x .sides)) ≡ endsAfter (endsOf (x .sides)) (received m late) → look far x s .sends ≡ sendsAfter far (look far x s .sends) (received m late)
-      → x .inbound ≡ inboundAfter own (x .inbound) (received m late) → At m (record { session = y; sent = []; late = late })
+      → theirs t′ (endsOf (x .sides)) ≡ endsAfter (endsOf (x .sides)) (received m) → look far x s .sends ≡ sendsAfter far (look far x s .sends) (received m)
+      → x .inbound ≡ inboundAfter own (endsOf (x .sides)) (x .inbound) (received m) → At m (record { session = y; sent = []; late = late })
   unfolding fold
   moved-sound m late o t t′ y e z ob ib w fi st se bo =
       let view : look far y s .sends ≡ look far x s .sends = rw (z, w, ob, fi) (kept-sends o t t′ e (take (x .waiting) s) (x .outbound) (x .finish)) in
@@ -171,6 +174,13 @@ module _ (r : Role) (own far : Ration) (x : Session) (s : List ℕ) (f : Formed 
   same-theirs : (o t : Side) → x .sides ≡ sides.Live o t → theirs t (endsOf (x .sides)) ≡ endsOf (x .sides)
   same-theirs o t e = ap (λ (z : Sides). theirs t (endsOf z)) e ∙ sym (ap endsOf e)
 
+  -- an increment to a side that sends no more is late and tells nothing
+  silent-increment : (n : ℕ) (o t : Side) → x .sides ≡ sides.Live o t → sendsOf far (sides.Live o t) (take (x .waiting) s) (x .outbound) (x .finish) ≡ silent
+      → look far x s .sends ≡ withIncrement n (look far x s .sends)
+  silent-increment n o t e q =
+      let none : look far x s .sends ≡ silent = ap (λ (z : Sides). sendsOf far z (take (x .waiting) s) (x .outbound) (x .finish)) e ∙ q in
+      none ∙ sym (ap (withIncrement n) none)
+
   increment-sound : (n : ℕ) (o t : Side) → x .sides ≡ sides.Live o t → Takes (At (increment-of n)) (incrementTo x n o t)
   unfolding fold
   increment-sound n side.Open t e = λ range.
@@ -184,8 +194,8 @@ module _ (r : Role) (own far : Ration) (x : Session) (s : List ℕ) (f : Formed 
         room = λ h. h;
         lawful = tt;
       }
-  increment-sound n side.Finished t e = moved-sound (increment-of n) true side.Finished t t _ e refl refl refl refl refl (same-theirs side.Finished t e) refl refl
-  increment-sound n side.Ended t e = moved-sound (increment-of n) true side.Ended t t _ e refl refl refl refl refl (same-theirs side.Ended t e) refl refl
+  increment-sound n side.Finished t e = moved-sound (increment-of n) true side.Finished t t _ e refl refl refl refl refl (same-theirs side.Finished t e) (silent-increment n side.Finished t e refl) refl
+  increment-sound n side.Ended t e = moved-sound (increment-of n) true side.Ended t t _ e refl refl refl refl refl (same-theirs side.Ended t e) (silent-increment n side.Ended t e refl) refl
 
   acknowledgment-sound : (o t : Side) → x .sides ≡ sides.Live o t → Takes (At acknowledgment-of) (quietly (sided (sides.Live o t) x))
   acknowledgment-sound o t e = moved-sound acknowledgment-of false o t t _ e refl refl refl refl refl (same-theirs o t e) refl refl

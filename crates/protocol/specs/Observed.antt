@@ -16,11 +16,11 @@ use Rattle.protocol.specs.Message.{SessionMessage, data-of, increment-of
 use Rattle.protocol.specs.Session.{afterData}
 use Rattle.protocol.specs.Ask.{positive, smaller}
 
--- what happens to a session number: a call of ours is taken, a message is taken (late or not), a message is written
+-- what happens to a session number: a call of ours is taken, a message is taken, a message is written
 pub data Event : Type 0 where
   opens finishes aborts : Event
   puts : List ℕ → Event
-  received : SessionMessage → Bool → Event
+  received : SessionMessage → Event
   wrote : SessionMessage → Event
 
 -- ---- whether it sends
@@ -54,13 +54,12 @@ sendsAfter far v opens = sending true [] far false
 sendsAfter far v finishes = withFinish v
 sendsAfter far v aborts = silent
 sendsAfter far v (puts bytes) = withPut bytes v
-sendsAfter far v (received (data-of n true close eof ack) late) = sending false [] far false
-sendsAfter far v (received (data-of n false close eof ack) late) = v
-sendsAfter far v (received (increment-of n) true) = v
-sendsAfter far v (received (increment-of n) false) = withIncrement n v
-sendsAfter far v (received (abort-of partial) late) = v
-sendsAfter far v (received close-of late) = v
-sendsAfter far v (received acknowledgment-of late) = v
+sendsAfter far v (received (data-of n true close eof ack)) = sending false [] far false
+sendsAfter far v (received (data-of n false close eof ack)) = v
+sendsAfter far v (received (increment-of n)) = withIncrement n v
+sendsAfter far v (received (abort-of partial)) = v
+sendsAfter far v (received close-of) = v
+sendsAfter far v (received acknowledgment-of) = v
 sendsAfter far v (wrote (data-of n begins close eof ack)) = withData n eof v
 sendsAfter far v (wrote (increment-of n)) = v
 sendsAfter far v (wrote (abort-of partial)) = silent
@@ -85,11 +84,11 @@ lapses opens = false
 lapses finishes = false
 lapses aborts = true
 lapses (puts bytes) = false
-lapses (received (data-of n begins close eof ack) late) = close
-lapses (received (increment-of n) late) = false
-lapses (received (abort-of partial) late) = true
-lapses (received close-of late) = true
-lapses (received acknowledgment-of late) = false
+lapses (received (data-of n begins close eof ack)) = close
+lapses (received (increment-of n)) = false
+lapses (received (abort-of partial)) = true
+lapses (received close-of) = true
+lapses (received acknowledgment-of) = false
 lapses (wrote m) = false
 
 abbrev pub anyLapse : List Event → Bool
@@ -112,18 +111,29 @@ abbrev pub theirs : Side → Ends → Ends
 theirs s unused = unused
 theirs s (ends o t) = ends o s
 
+-- a session is established with respect to an end that has not terminated it
+abbrev pub established : Side → Bool
+established side.Open = true
+established side.Finished = true
+established side.Ended = false
+
+abbrev pub unfinished : Side → Bool
+unfinished side.Open = true
+unfinished side.Finished = false
+unfinished side.Ended = false
+
 -- an open Data message establishes a session with respect to both ends
 abbrev pub endsAfter : Ends → Event → Ends
 endsAfter v opens = v
 endsAfter v finishes = v
 endsAfter v aborts = v
 endsAfter v (puts bytes) = v
-endsAfter v (received (data-of n true close eof ack) late) = ends side.Open (afterData close eof)
-endsAfter v (received (data-of n false close eof ack) late) = theirs (afterData close eof) v
-endsAfter v (received (increment-of n) late) = v
-endsAfter v (received (abort-of partial) late) = theirs side.Ended v
-endsAfter v (received close-of late) = theirs side.Ended v
-endsAfter v (received acknowledgment-of late) = v
+endsAfter v (received (data-of n true close eof ack)) = ends side.Open (afterData close eof)
+endsAfter v (received (data-of n false close eof ack)) = theirs (afterData close eof) v
+endsAfter v (received (increment-of n)) = v
+endsAfter v (received (abort-of partial)) = theirs side.Ended v
+endsAfter v (received close-of) = theirs side.Ended v
+endsAfter v (received acknowledgment-of) = v
 endsAfter v (wrote (data-of n true close eof ack)) = ends (afterData close eof) side.Open
 endsAfter v (wrote (data-of n false close eof ack)) = ours (afterData close eof) v
 endsAfter v (wrote (increment-of n)) = v
@@ -133,24 +143,40 @@ endsAfter v (wrote acknowledgment-of) = v
 
 -- ---- what the far end may still send: our start, plus what was granted, less the Data taken and not late
 
-abbrev pub inboundAfter : Ration → Ration → Event → Ration
-inboundAfter own v opens = v
-inboundAfter own v finishes = v
-inboundAfter own v aborts = v
-inboundAfter own v (puts bytes) = v
-inboundAfter own v (received (data-of n true close eof ack) late) = minus own n
-inboundAfter own v (received (data-of n false close eof ack) true) = v
-inboundAfter own v (received (data-of n false close eof ack) false) = minus v n
-inboundAfter own v (received (increment-of n) late) = v
-inboundAfter own v (received (abort-of partial) late) = v
-inboundAfter own v (received close-of late) = v
-inboundAfter own v (received acknowledgment-of late) = v
-inboundAfter own v (wrote (data-of n true close eof ack)) = own
-inboundAfter own v (wrote (data-of n false close eof ack)) = v
-inboundAfter own v (wrote (increment-of n)) = plus v n
-inboundAfter own v (wrote (abort-of partial)) = v
-inboundAfter own v (wrote close-of) = v
-inboundAfter own v (wrote acknowledgment-of) = v
+-- a message that crossed our end of the session: Data where we have terminated it, an increment where we send no more
+abbrev pub lateFor : Ends → SessionMessage → Bool
+lateFor unused m = false
+lateFor (ends o t) (data-of n true close eof ack) = false
+lateFor (ends o t) (data-of n false close eof ack) = not (established o)
+lateFor (ends o t) (increment-of n) = not (unfinished o)
+lateFor (ends o t) (abort-of partial) = false
+lateFor (ends o t) close-of = false
+lateFor (ends o t) acknowledgment-of = false
+
+-- late Data is not counted
+abbrev pub counted : Ends → Ration → ℕ → Ration
+counted unused v n = v
+counted (ends side.Open t) v n = minus v n
+counted (ends side.Finished t) v n = minus v n
+counted (ends side.Ended t) v n = v
+
+abbrev pub inboundAfter : Ration → Ends → Ration → Event → Ration
+inboundAfter own st v opens = v
+inboundAfter own st v finishes = v
+inboundAfter own st v aborts = v
+inboundAfter own st v (puts bytes) = v
+inboundAfter own st v (received (data-of n true close eof ack)) = minus own n
+inboundAfter own st v (received (data-of n false close eof ack)) = counted st v n
+inboundAfter own st v (received (increment-of n)) = v
+inboundAfter own st v (received (abort-of partial)) = v
+inboundAfter own st v (received close-of) = v
+inboundAfter own st v (received acknowledgment-of) = v
+inboundAfter own st v (wrote (data-of n true close eof ack)) = own
+inboundAfter own st v (wrote (data-of n false close eof ack)) = v
+inboundAfter own st v (wrote (increment-of n)) = plus v n
+inboundAfter own st v (wrote (abort-of partial)) = v
+inboundAfter own st v (wrote close-of) = v
+inboundAfter own st v (wrote acknowledgment-of) = v
 
 -- ---- all that is told of a number
 
@@ -165,7 +191,7 @@ observe own far v e =
     record {
       standing = endsAfter (v .standing) e;
       sends = sendsAfter far (v .sends) e;
-      inbound = inboundAfter own (v .inbound) e;
+      inbound = inboundAfter own (v .standing) (v .inbound) e;
     }
 
 -- ---- what a turn sends
@@ -177,17 +203,6 @@ dueData (sending unsent waiting r finish) =
     data-of (smaller (length waiting) r) unsent false (finish && eqb (length waiting - smaller (length waiting) r) 0) false
 
 -- ---- what 002 lets an end send now
-
--- a session is established with respect to an end that has not terminated it
-abbrev pub established : Side → Bool
-established side.Open = true
-established side.Finished = true
-established side.Ended = false
-
-abbrev pub unfinished : Side → Bool
-unfinished side.Open = true
-unfinished side.Finished = false
-unfinished side.Ended = false
 
 abbrev pub finished : Side → Bool
 finished side.Open = false
