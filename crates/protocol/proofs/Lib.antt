@@ -9,3 +9,4 @@ pub mod Receipts
 pub mod Exact
 pub mod Numbers
 pub mod Late
+pub mod Reports

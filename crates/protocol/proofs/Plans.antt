@@ -62,3 +62,9 @@ exact-stops bad good t (stop n) h e = (n, refl)
 exact-stops bad good t (check true n p) h e = (n, refl)
 exact-stops bad good t (check false n p) h e = exact-stops bad good t p (h .1 refl) e
 exact-stops bad good t (take a) h e = absurd (true-false h e)
+
+-- what holds of everything holds of all that a rule can take
+pub takes-all : {A : Type 0} {P : A → Type 0} → ((a : A) → P a) → (p : Plan A) → Takes P p
+takes-all f (stop n) = tt
+takes-all f (check b n p) = λ e. takes-all f p
+takes-all f (take a) = f a

@@ -9,17 +9,17 @@ use lib.ListN.{length, take, drop, length-append, length-take, length-drop, leng
 use lib.Seq.{take-at, drop-at, length-take-le, take-append-le, drop-append-le, drop-append-add, drop-drop, take-take}
 use Rattle.laws.proofs.Lists.{take-drop}
 use Rattle.protocol.specs.Slot.{slotSize, queueSize}
-use Rattle.protocol.specs.Queue.{slot, withSlot, padded, putSlot, turnSlot}
+use Rattle.protocol.specs.Queue.{slot, withSlot, padded, afterPut, putSlot, afterTurn, turnSlot}
 
 pub padded-length : (bytes : List ℕ) → length bytes ≤ slotSize → length (padded bytes) ≡ slotSize
 padded-length bytes h = length-append bytes _ ∙ simp length-replicate (omega arith)
 
 pub put-length : (w : ℕ) (bytes s : List ℕ) → w + length bytes ≤ slotSize → w ≤ length s → length (putSlot w bytes s) ≡ slotSize
 put-length w bytes s h k =
-    padded-length (take w s ++ bytes) (let e = length-append (take w s) bytes in let t = length-take-le w s k in omega arith)
+    padded-length (afterPut w bytes s) (simp (length-append, length-take) (omega arith))
 
 pub turn-length : (w n : ℕ) (s : List ℕ) → w ≤ slotSize → length (turnSlot w n s) ≡ slotSize
-turn-length w n s h = padded-length (take (w - n) (drop n s)) (simp length-take (omega arith))
+turn-length w n s h = padded-length (afterTurn w n s) (simp length-take (omega arith))
 
 pub slot-length : (n : ℕ) (q : List ℕ) → n < 128 → length q ≡ queueSize → length (slot n q) ≡ slotSize
 slot-length n q h e = length-take-le slotSize (drop (n * slotSize) q) (simp length-drop (omega arith))

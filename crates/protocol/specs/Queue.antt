@@ -17,9 +17,15 @@ abbrev pub padded : List ℕ → List ℕ
 padded bytes = bytes ++ replicate (slotSize - length bytes) 0
 
 -- a put: the bytes stand behind those that wait
+abbrev pub afterPut : ℕ → List ℕ → List ℕ → List ℕ
+afterPut waiting bytes s = take waiting s ++ bytes
+
 abbrev pub putSlot : ℕ → List ℕ → List ℕ → List ℕ
-putSlot waiting bytes s = padded (take waiting s ++ bytes)
+putSlot waiting bytes s = padded (afterPut waiting bytes s)
 
 -- a turn: the first n bytes that wait are gone, the others stand first
+abbrev pub afterTurn : ℕ → ℕ → List ℕ → List ℕ
+afterTurn waiting n s = take (waiting - n) (drop n s)
+
 abbrev pub turnSlot : ℕ → ℕ → List ℕ → List ℕ
-turnSlot waiting n s = padded (take (waiting - n) (drop n s))
+turnSlot waiting n s = padded (afterTurn waiting n s)
