@@ -145,12 +145,12 @@ header-number s n q = go (ltb (length s) 8) q
     go true p = absurd (refused-not-ok p)
     go false p = number (fixed connectionLayout (take 8 s)) p
 
--- ---- what stands too short is refused with 10, and nothing else is refused
+-- ---- what stands too short is refused with 10, and nothing else is refused; a violation is a number from 20 up
 
 abbrev pub ShortOnly : {A : Type 0} → Result A → Type 0
 ShortOnly (ok a) = Unit {0}
 ShortOnly (refused n) = n ≡ 10
-ShortOnly (violation n) = Unit {0}
+ShortOnly (violation n) = leb 20 n ≡ true
 
 either : {A : Type 0} (p q : Result A) (b : Bool) → ShortOnly p → ShortOnly q → ShortOnly (pick b p q)
 unfolding pick
@@ -161,10 +161,10 @@ parse-short : (from : Role) (h : List ℕ) (n : Named) → ShortOnly (typed from
 unfolding typed allowed
 parse-short from h (Known k) =
     let m = message k h in
-    let flags = either (ok m) (violation 24) (flagsAllowed from m) tt tt in
-    let sender = either (pick (flagsAllowed from m) (ok m) (violation 24)) (violation 23) (maySend from k) flags tt in
-    either (allowed from k m) (violation 21) (fixed (layout k) h) sender tt
-parse-short from h Unknown = tt
+    let flags = either (ok m) (violation 24) (flagsAllowed from m) tt refl in
+    let sender = either (pick (flagsAllowed from m) (ok m) (violation 24)) (violation 23) (maySend from k) flags refl in
+    either (allowed from k m) (violation 21) (fixed (layout k) h) sender refl
+parse-short from h Unknown = refl
 
 pub message-short : (from : Role) (s : List ℕ) → ShortOnly (readMessage from s)
 unfolding readMessage parseHeader
@@ -175,11 +175,11 @@ message-short from s =
     body : (r : Result Message) → ShortOnly r → ShortOnly (withBody (length s) r)
     body (ok m) h = either (ok m) (refused 10) (leb (4 + bodyLength m) (length s)) tt refl
     body (refused n) h = h
-    body (violation n) h = tt
+    body (violation n) h = h
 
 pub header-short : (s : List ℕ) → ShortOnly (readConnectionHeader s)
 unfolding readConnectionHeader parseConnectionHeader
 header-short s =
     let n = digits initialRation connectionLayout (take 8 s) 0 in
     either (refused 10) (parseConnectionHeader (take 8 s)) (ltb (length s) 8) refl
-    (either (ok n) (violation 22) (fixed connectionLayout (take 8 s)) tt tt)
+    (either (ok n) (violation 22) (fixed connectionLayout (take 8 s)) tt refl)
