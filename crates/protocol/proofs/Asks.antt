@@ -1,6 +1,6 @@
 -- Each local call keeps what is observed of its session: one lemma for each call, about one session and no table.
 use mathlib.Core.Path.{_≡_, refl, sym, ap, _∙_}
-use mathlib.Core.Bool.{Bool, true, false, not, _&&_, true≢false, false≢true}
+use mathlib.Core.Bool.{Bool, true, false, not, _&&_, _||_, true≢false, false≢true}
 use mathlib.Core.List.{List, [], _∷_, _++_}
 use Prim.Native.Nat.{ℕ, _+_, _-_, _≤_}
 use native.Mathlib.Omega.{arith}
@@ -29,10 +29,10 @@ use Rattle.protocol.specs.Session.{sided, dropped, settled}
 use Rattle.protocol.specs.Ask.{opened, openOf, openAsk, sends, putAsk, finishAsk, mayGrant, grantAsk, restored, aborting, abortOf, abortAsk, closeOf, closeAsk}
 use Rattle.laws.specs.Runs.{fold}
 use Rattle.protocol.specs.Observed
-use Rattle.protocol.specs.Observed.{opens, finishes, aborts, puts, Sending, silent, sending, isReady, withPut, ours, observe, established, permitsOurs}
-use Rattle.laws.proofs.Tests.{and-both, or-first, or-second, not-false}
+use Rattle.protocol.specs.Observed.{opens, finishes, aborts, puts, Sending, silent, sending, isReady, withPut, ends, ours, observe, established, unfinished, permitsOurs}
+use Rattle.laws.proofs.Tests.{and-first, and-both, or-first, or-second, not-false}
 use Rattle.protocol.proofs.Plans.{Takes}
-use Rattle.protocol.proofs.Views.{endsOf, sendsOf, look, Formed, seen-path}
+use Rattle.protocol.proofs.Views.{endsOf, sendsOf, look, Formed, seen-path, pairs, paired, ended-pairs, only-if-true}
 use Rattle.protocol.proofs.Slots.{put-length}
 use Rattle.protocol.proofs.Sound.{Sound}
 
@@ -66,6 +66,7 @@ finish-sound r own far x s f side =
             none = f .none;
             finish = not-false (sends (x .sides)) (or-first (not (sends (x .sides))) (x .finish) side);
             place = f .place;
+            pair = f .pair;
           };
       lasts = λ h _ _. ap isReady e ∙ finish-ready (sendsOf far (x .sides) (take (x .waiting) s) (x .outbound) (x .finish)) h;
       sends-data = refl;
@@ -118,6 +119,7 @@ put-sound r own far x s bytes f long side room =
             none = ap (λ (b : Bool). onlyIf (not b) (eqb (x .waiting + length bytes) 0)) sender;
             finish = f .finish;
             place = f .place;
+            pair = f .pair;
           };
       lasts =
           λ h _ _. ap isReady e
@@ -150,6 +152,7 @@ open-sound r own far x s f client = go (x .sides) refl
                 none = refl;
                 finish = refl;
                 place = and-both (server-client r client) refl;
+                pair = refl;
               };
           lasts = λ _ _ _. refl;
           sends-data = refl;
@@ -182,14 +185,14 @@ grant-sound r own far x s n f standing amount sum =
     let small : n ≤ 65_535 = ltb-false 65_535 n (or-second (eqb n 0) (ltb 65_535 n) amount) in
     record {
       seen = refl;
-      formed = record { outbound = f .outbound; inbound = range; waiting = f .waiting; none = f .none; finish = f .finish; place = f .place };
+      formed = record { outbound = f .outbound; inbound = range; waiting = f .waiting; none = f .none; finish = f .finish; place = f .place; pair = f .pair };
       lasts = λ h _ _. h;
       sends-data = refl;
       room = λ h. h;
-      lawful = record { now = go (x .sides) (not-false (mayGrant (x .sides)) standing) range; ours = refl; fits = omega arith; body = omega arith };
+      lawful = record { now = go (x .sides) (not-false (mayGrant (x .sides)) standing) range; ours = refl; fits = omega arith; body = omega arith; carries = tt };
     }
   where
-    go : (z : Sides) → mayGrant z ≡ true → inRange (plus (x .inbound) n) ≡ true → permitsOurs (endsOf z) (look far x s) (increment-of n) ≡ true
+    go : (z : Sides) → mayGrant z ≡ true → inRange (plus (x .inbound) n) ≡ true → permitsOurs r (endsOf z) (look far x s) (increment-of n) ≡ true
     go sides.Idle e h = absurd (false≢true e)
     go (sides.Opening b) e h = absurd (false≢true e)
     go (sides.Live side.Open side.Open) e h = h
@@ -215,7 +218,7 @@ client-server role.Server e = refl
 -- our side ends and what waited is dropped
 ended-formed : {r : Role} {x : Session} (t : Side) (y : Session) → Formed r true x → y .sides ≡ sides.Live side.Ended t → y .outbound ≡ x .outbound
     → y .inbound ≡ x .inbound → y .waiting ≡ 0 → y .finish ≡ false → Formed r true y
-ended-formed t y f z o i w n =
+ended-formed {r} t y f z o i w n =
     record {
       outbound = ap inRange o ∙ f .outbound;
       inbound = ap inRange i ∙ f .inbound;
@@ -223,6 +226,7 @@ ended-formed t y f z o i w n =
       none = rw (z, w);
       finish = rw n;
       place = rw z;
+      pair = ap (paired r) z ∙ ended-pairs r t;
     }
 
 pub abort-sound : (r : Role) (own far : Ration) (x : Session) (s : List ℕ) (partial : Bool) → Formed r true x
@@ -244,10 +248,11 @@ abort-sound r own far x s partial f role = go (x .sides) refl
           room = λ _. omega arith;
           lawful =
               record {
-                now = ap (λ (z : Sides). permitsOurs (endsOf z) (observe own far (look far x s) aborts) (abort-of partial)) e ∙ h;
+                now = ap (λ (z : Sides). permitsOurs r (endsOf z) (observe own far (look far x s) aborts) (abort-of partial)) e ∙ and-both (only-if-true (not (established t) && (unfinished o || isServer r)) true refl) h;
                 ours = partial-server partial r role;
                 fits = tt;
                 body = omega arith;
+                carries = tt;
               };
         }
 
@@ -256,7 +261,7 @@ abort-sound r own far x s partial f role = go (x .sides) refl
     restoring before.Idle e =
         record {
           seen = seen-path (sym (ap endsOf e)) refl refl;
-          formed = record { outbound = f .outbound; inbound = f .inbound; waiting = omega arith; none = refl; finish = refl; place = refl };
+          formed = record { outbound = f .outbound; inbound = f .inbound; waiting = omega arith; none = refl; finish = refl; place = refl; pair = refl };
           lasts = λ _ q _. lapsed q;
           sends-data = refl;
           room = λ _. omega arith;
@@ -265,7 +270,7 @@ abort-sound r own far x s partial f role = go (x .sides) refl
     restoring before.Finished e =
         record {
           seen = seen-path (sym (ap endsOf e)) refl refl;
-          formed = record { outbound = f .outbound; inbound = f .inbound; waiting = omega arith; none = refl; finish = refl; place = refl };
+          formed = record { outbound = f .outbound; inbound = f .inbound; waiting = omega arith; none = refl; finish = refl; place = refl; pair = and-first (isClient r) true (rw e at (f .place)) };
           lasts = λ _ q _. lapsed q;
           sends-data = refl;
           room = λ _. omega arith;
@@ -274,7 +279,7 @@ abort-sound r own far x s partial f role = go (x .sides) refl
     restoring before.Ended e =
         record {
           seen = seen-path (sym (ap endsOf e)) refl refl;
-          formed = record { outbound = f .outbound; inbound = f .inbound; waiting = omega arith; none = refl; finish = refl; place = refl };
+          formed = record { outbound = f .outbound; inbound = f .inbound; waiting = omega arith; none = refl; finish = refl; place = refl; pair = refl };
           lasts = λ _ q _. lapsed q;
           sends-data = refl;
           room = λ _. omega arith;
@@ -297,6 +302,12 @@ pub close-sound : (r : Role) (own far : Ration) (x : Session) (s : List ℕ) →
 unfolding closeAsk fold
 close-sound r own far x s f role = go (x .sides) refl
   where
+    -- the far side of a server that has finished is not ended
+    goes : (t : Side) → pairs r t side.Finished ≡ true → permitsOurs r (ends side.Finished t) (look far x s) close-of ≡ true
+    goes side.Open h = refl
+    goes side.Finished h = refl
+    goes side.Ended h = absurd (true≢false (sym h ∙ role))
+
     go : (z : Sides) → x .sides ≡ z → Takes (Sound r own far x s [] [] s false) (closeOf x z)
     go sides.Idle e = tt
     go (sides.Opening b) e = tt
@@ -314,16 +325,18 @@ close-sound r own far x s f role = go (x .sides) refl
                 none = rw e at (f .none);
                 finish = rw e at (f .finish);
                 place = refl;
+                pair = ended-pairs r t;
               };
           lasts = λ h _ _. absurd (false≢true (rw e at h));
           sends-data = refl;
           room = λ h. h;
           lawful =
               record {
-                now = ap (λ (z : Sides). permitsOurs (endsOf z) (look far x s) close-of) e;
+                now = ap (λ (z : Sides). permitsOurs r (endsOf z) (look far x s) close-of) e ∙ goes t (sym (ap (paired r) e) ∙ f .pair);
                 ours = client-server r role;
                 fits = tt;
                 body = omega arith;
+                carries = tt;
               };
         }
     go (sides.Live side.Ended t) e = tt

@@ -1,25 +1,38 @@
--- No rule about one session refuses with 14: from the rules' numbers, written out.
+-- With which numbers the rules about one session refuse: a local call below 14, a receipt from 20 up. From the rules, written out.
 use mathlib.Core.Path.{_≡_, refl}
-use mathlib.Core.Bool.{Bool, false}
+use mathlib.Core.Bool.{Bool, true, false}
 use Prim.Native.Nat.{ℕ}
-use lib.Dec.{eqb}
+use lib.Dec.{ltb, leb}
 use Rattle.ration.specs.declared.Ration.{Ration}
 use Rattle.wire.specs.declared.Role.{Role}
+use Rattle.wire.specs.declared.Role.the-variants as role
+use Rattle.wire.specs.declared.Message.{Message}
+use Rattle.wire.specs.declared.Message.the-variants as msg
+use Rattle.protocol.specs.declared.Side.{Side}
 use Rattle.protocol.specs.declared.Side.the-variants as side
 use Rattle.protocol.specs.declared.Sides.{Sides}
 use Rattle.protocol.specs.declared.Sides.the-variants as sides
+use Rattle.protocol.specs.declared.Outcome.the-variants as outcome
 use Rattle.protocol.specs.declared.Session.{Session}
+use Rattle.protocol.specs.declared.Connection.{Connection}
+use Rattle.protocol.specs.Message.{SessionMessage, data-of, increment-of, abort-of, close-of, acknowledgment-of}
+use Rattle.protocol.specs.Session.{Move, to, wrong, follow, settled}
+use Rattle.protocol.specs.Receipt.{aborted, dataTo, incrementTo, abortTo, closeTo, arriving, other, receipt}
 use Rattle.protocol.specs.Ask.{openOf, openAsk, putAsk, finishAsk, grantAsk, abortOf, abortAsk, closeOf, closeAsk, turnOf, turnAsk}
+use Rattle.protocol.specs.Judge.{judgeWhole}
 use Rattle.protocol.proofs.Plans.{Stops}
 
-abbrev pub Other : ℕ → Type 0
-Other n = eqb n 14 ≡ false
+abbrev pub Low : ℕ → Type 0
+Low n = ltb n 14 ≡ true
 
-pub open-other : (r : Role) (x : Session) → Stops Other (openAsk r x)
+abbrev pub High : ℕ → Type 0
+High n = leb 20 n ≡ true
+
+pub open-low : (r : Role) (x : Session) → Stops Low (openAsk r x)
 unfolding openAsk
-open-other r x = (refl, go (x .sides))
+open-low r x = (refl, go (x .sides))
   where
-    go : (z : Sides) → Stops Other (openOf x z)
+    go : (z : Sides) → Stops Low (openOf x z)
     go sides.Idle = tt
     go (sides.Opening b) = refl
     go (sides.Live side.Open t) = refl
@@ -30,23 +43,23 @@ open-other r x = (refl, go (x .sides))
     go (sides.Live side.Ended side.Finished) = refl
     go (sides.Live side.Ended side.Ended) = tt
 
-pub put-other : (x : Session) (n : ℕ) → Stops Other (putAsk x n)
+pub put-low : (x : Session) (n : ℕ) → Stops Low (putAsk x n)
 unfolding putAsk
-put-other x n = (refl, (refl, tt))
+put-low x n = (refl, (refl, tt))
 
-pub finish-other : (x : Session) → Stops Other (finishAsk x)
+pub finish-low : (x : Session) → Stops Low (finishAsk x)
 unfolding finishAsk
-finish-other x = (refl, tt)
+finish-low x = (refl, tt)
 
-pub grant-other : (x : Session) (n : ℕ) → Stops Other (grantAsk x n)
+pub grant-low : (x : Session) (n : ℕ) → Stops Low (grantAsk x n)
 unfolding grantAsk
-grant-other x n = (refl, (refl, (refl, tt)))
+grant-low x n = (refl, (refl, (refl, tt)))
 
-pub abort-other : (r : Role) (x : Session) (partial : Bool) → Stops Other (abortAsk r x partial)
+pub abort-low : (r : Role) (x : Session) (partial : Bool) → Stops Low (abortAsk r x partial)
 unfolding abortAsk
-abort-other r x partial = (refl, go (x .sides))
+abort-low r x partial = (refl, go (x .sides))
   where
-    go : (z : Sides) → Stops Other (abortOf x partial z)
+    go : (z : Sides) → Stops Low (abortOf x partial z)
     go sides.Idle = refl
     go (sides.Opening b) = tt
     go (sides.Live side.Open t) = tt
@@ -55,24 +68,83 @@ abort-other r x partial = (refl, go (x .sides))
     go (sides.Live side.Finished side.Ended) = refl
     go (sides.Live side.Ended t) = refl
 
-pub close-other : (r : Role) (x : Session) → Stops Other (closeAsk r x)
+pub close-low : (r : Role) (x : Session) → Stops Low (closeAsk r x)
 unfolding closeAsk
-close-other r x = (refl, go (x .sides))
+close-low r x = (refl, go (x .sides))
   where
-    go : (z : Sides) → Stops Other (closeOf x z)
+    go : (z : Sides) → Stops Low (closeOf x z)
     go sides.Idle = refl
     go (sides.Opening b) = refl
     go (sides.Live side.Open t) = refl
     go (sides.Live side.Finished t) = tt
     go (sides.Live side.Ended t) = refl
 
-pub turn-other : (own far : Ration) (x : Session) → Stops Other (turnAsk own far x)
+pub turn-low : (own far : Ration) (x : Session) → Stops Low (turnAsk own far x)
 unfolding turnAsk
-turn-other own far x = go (x .sides)
+turn-low own far x = go (x .sides)
   where
-    go : (z : Sides) → Stops Other (turnOf own far x z)
+    go : (z : Sides) → Stops Low (turnOf own far x z)
     go sides.Idle = refl
     go (sides.Opening b) = tt
     go (sides.Live side.Open t) = (refl, tt)
     go (sides.Live side.Finished t) = refl
     go (sides.Live side.Ended t) = refl
+
+-- ---- receipts
+
+module _ (x : Session) where
+  data-high : (r : Role) (n : ℕ) (close : Bool) (o t : Side) → Stops High (dataTo r x n close o t)
+  data-high r n close side.Ended t = tt
+  data-high r n close side.Finished t = (refl, tt)
+  data-high r n true side.Open t = (refl, tt)
+  data-high r n false side.Open t = (refl, tt)
+
+  increment-high : (n : ℕ) (o t : Side) → Stops High (incrementTo x n o t)
+  increment-high n side.Open t = (refl, tt)
+  increment-high n side.Finished t = tt
+  increment-high n side.Ended t = tt
+
+  abort-high : (r : Role) (y : Session) (o t : Side) → Stops High (abortTo r y o t)
+  abort-high r y side.Open t = tt
+  abort-high role.Client y side.Finished t = tt
+  abort-high role.Server y side.Finished t = tt
+  abort-high r y side.Ended t = tt
+
+  close-high : (r : Role) (y : Session) (o t : Side) → Stops High (closeTo r y o t)
+  close-high r y side.Open t = tt
+  close-high r y side.Finished t = tt
+  close-high r y side.Ended t = tt
+
+  arriving-high : (r : Role) (m : SessionMessage) (o : Side) (v : Move) → Stops High (arriving r x m o v)
+  arriving-high r m o wrong = refl
+  arriving-high r (data-of n opens close eof ack) o (to t) = data-high r n close o t
+  arriving-high r (increment-of n) o (to t) = increment-high n o t
+  arriving-high r (abort-of p) o (to t) = abort-high r (settled (aborted p) x) o t
+  arriving-high r close-of o (to t) = close-high r (settled outcome.Complete x) o t
+  arriving-high r acknowledgment-of o (to t) = tt
+
+  other-high : (r : Role) (m : SessionMessage) (z : Sides) → Stops High (other r x m z)
+  other-high r m sides.Idle = refl
+  other-high r m (sides.Opening b) = refl
+  other-high r m (sides.Live o t) = arriving-high r m o (follow t m)
+
+  pub receipt-high : (r : Role) (own far : Ration) (m : SessionMessage) → Stops High (receipt r own far x m)
+  unfolding receipt
+  receipt-high r own far (data-of n true close eof ack) = (refl, (refl, tt))
+  receipt-high r own far (data-of n false close eof ack) = other-high r (data-of n false close eof ack) (x .sides)
+  receipt-high r own far (increment-of n) = other-high r (increment-of n) (x .sides)
+  receipt-high r own far (abort-of p) = other-high r (abort-of p) (x .sides)
+  receipt-high r own far close-of = other-high r close-of (x .sides)
+  receipt-high r own far acknowledgment-of = other-high r acknowledgment-of (x .sides)
+
+pub whole-high : (c : Connection) (m : Message) → Stops High (judgeWhole c m)
+whole-high c (msg.NoOperation n) = tt
+whole-high c (msg.Shutdown n) = tt
+whole-high c (msg.Ping k) = tt
+whole-high c (msg.PingAck k) = (refl, tt)
+whole-high c (msg.Error n) = tt
+whole-high c (msg.IncrementRation t i n) = refl
+whole-high c (msg.Abort p i n) = refl
+whole-high c (msg.Close i) = refl
+whole-high c (msg.Acknowledgment i) = refl
+whole-high c (msg.Data o k e a i n) = refl

@@ -1,20 +1,20 @@
 -- Each receipt keeps what is observed of its session: one lemma for each message, about one session and no table.
 use mathlib.Core.Path.{_≡_, refl, sym, ap, _∙_, subst}
-use mathlib.Core.Bool.{Bool, true, false, _||_, true≢false, false≢true}
+use mathlib.Core.Bool.{Bool, true, false, not, _&&_, _||_, true≢false, false≢true}
 use mathlib.Core.List.{List, [], _∷_}
 use Prim.Native.Nat.{ℕ, _+_}
 use native.Mathlib.Omega.{arith}
 use lib.ListN.{take}
 use borrow.Author.Tests.{ltb-true, lt-ltb}
 use Rattle.laws.specs.Runs.{fold}
-use Rattle.laws.proofs.Tests.{not-false, or-first}
+use Rattle.laws.proofs.Tests.{and-both, not-false, or-first}
 use Rattle.ration.specs.declared.Ration.{Ration}
 use Rattle.ration.specs.declared.Ration.the-variants as ration
 use Rattle.ration.specs.Ration.{inRange, plus}
 use Rattle.ration.proofs.Laws.{minus-in-range}
 use Rattle.wire.specs.declared.Role.{Role}
 use Rattle.wire.specs.declared.Role.the-variants as role
-use Rattle.wire.specs.Message.{isServer, onlyIf}
+use Rattle.wire.specs.Message.{isClient, isServer, onlyIf}
 use Rattle.protocol.specs.declared.Side.{Side}
 use Rattle.protocol.specs.declared.Side.the-variants as side
 use Rattle.protocol.specs.declared.Sides.{Sides}
@@ -25,9 +25,9 @@ use Rattle.protocol.specs.Message.{SessionMessage, data-of, increment-of
 use Rattle.protocol.specs.Session.{afterData, follow, sided, settled, received as spent, incremented}
 use Rattle.protocol.specs.Receipt.{Taken, quietly, replying, aborted, dataTo, incrementTo, abortTo, closeTo, arriving, other, acceptable, accepted, receipt}
 use Rattle.protocol.specs.Ask.{sends, positive}
-use Rattle.protocol.specs.Observed.{received, Sending, silent, sending, isReady, lapses, sendsAfter, endsAfter, counted, inboundAfter, Ends, ends, ours, theirs, withIncrement, observe, established, permitsOurs}
+use Rattle.protocol.specs.Observed.{received, Sending, silent, sending, anyLeft, isReady, lapses, sendsAfter, endsAfter, counted, inboundAfter, Ends, ends, ours, theirs, withIncrement, observe, established, unfinished, permitsOurs}
 use Rattle.protocol.proofs.Plans.{Takes}
-use Rattle.protocol.proofs.Views.{endsOf, sendsOf, look, Formed, seen-path}
+use Rattle.protocol.proofs.Views.{endsOf, sendsOf, look, Formed, seen-path, pairs, paired, ended-pairs, only-if-true, data-leaves, any-left}
 use Rattle.protocol.proofs.Sound.{Sound}
 
 -- an open Data message begins a session
@@ -37,6 +37,23 @@ begins (increment-of n) = false
 begins (abort-of p) = false
 begins close-of = false
 begins acknowledgment-of = false
+
+-- Data with a close flag, and a Close, terminate it
+abbrev pub closes : SessionMessage → Bool
+closes (data-of n b close eof ack) = close
+closes (increment-of n) = false
+closes (abort-of p) = false
+closes close-of = true
+closes acknowledgment-of = false
+
+-- what the other end may send at all: an open Data comes from a client, a close flag and a Close from a server
+abbrev pub Possible : Role → SessionMessage → Type 0
+Possible role.Client m = begins m ≡ false
+Possible role.Server m = closes m ≡ false
+
+from-server : (r : Role) (m : SessionMessage) → Possible r m → closes m ≡ true → isClient r ≡ true
+from-server role.Client m p e = refl
+from-server role.Server m p e = absurd (true≢false (sym e ∙ p))
 
 same-sends : (o t t′ : Side) → sends (sides.Live o t′) ≡ sends (sides.Live o t)
 same-sends side.Open t t′ = refl
@@ -60,7 +77,7 @@ increment-ready : (v : Sending) (n : ℕ) → isReady v ≡ true → isReady (wi
 increment-ready silent n h = h
 increment-ready (sending true w r f) n h = refl
 increment-ready (sending false [] r f) n h = h
-increment-ready (sending false (b ∷ w) r f) n h = flat (positive (plus r n)) (positive-more r n (unflat (positive r) h))
+increment-ready (sending false (b ∷ w) r f) n h = flat (anyLeft (plus r n)) (any-left (plus r n) ∙ positive-more r n (sym (any-left r) ∙ unflat (anyLeft r) h))
   where
     flat : (b : Bool) → b ≡ true → (b || false) ≡ true
     flat true e = refl
@@ -70,6 +87,16 @@ increment-ready (sending false (b ∷ w) r f) n h = flat (positive (plus r n)) (
     unflat true e = refl
     unflat false e = e
 
+-- a side that goes on pairs with any
+goes-on-pairs : (r : Role) (o : Side) (eof : Bool) → pairs r (afterData false eof) o ≡ true
+goes-on-pairs r o true = refl
+goes-on-pairs r o false = refl
+
+accepted-pairs : (r : Role) (n : ℕ) (close eof ack : Bool) → Possible r (data-of n true close eof ack) → pairs r (afterData close eof) side.Open ≡ true
+accepted-pairs role.Client n close eof ack q = absurd (true≢false q)
+accepted-pairs role.Server n true eof ack q = absurd (true≢false q)
+accepted-pairs role.Server n false eof ack q = goes-on-pairs role.Server side.Open eof
+
 module _ (r : Role) (own far : Ration) (x : Session) (s : List ℕ) (f : Formed r true x) where
   -- what is taken when the message m comes
   abbrev At : SessionMessage → Taken → Type 0
@@ -78,8 +105,8 @@ module _ (r : Role) (own far : Ration) (x : Session) (s : List ℕ) (f : Formed 
   -- our side stays, theirs moves
   module _ (o t t′ : Side) (e : x .sides ≡ sides.Live o t) where
     kept-formed : (y : Session) → y .sides ≡ sides.Live o t′ → inRange (y .outbound) ≡ true → inRange (y .inbound) ≡ true
-        → y .waiting ≡ x .waiting → y .finish ≡ x .finish → Formed r true y
-    kept-formed y z ho hi w n =
+        → y .waiting ≡ x .waiting → y .finish ≡ x .finish → pairs r t′ o ≡ true → Formed r true y
+    kept-formed y z ho hi w n pr =
         let small = f .waiting in
         let same : sends (y .sides) ≡ sends (x .sides) = ap sends z ∙ same-sends o t t′ ∙ sym (ap sends e) in
         record {
@@ -89,6 +116,7 @@ module _ (r : Role) (own far : Ration) (x : Session) (s : List ℕ) (f : Formed 
           none = rw (same, w) (f .none);
           finish = rw (same, n) (f .finish);
           place = rw z;
+          pair = ap (paired r) z ∙ pr;
         }
 
     kept-standing : endsOf (sides.Live o t′) ≡ theirs t′ (endsOf (x .sides))
@@ -105,16 +133,17 @@ module _ (r : Role) (own far : Ration) (x : Session) (s : List ℕ) (f : Formed 
   reply-sound m o t t′ y e live lapse st ib ho hi =
       record {
         seen = seen-path (sym (ap (ours side.Ended) st)) refl (sym ib);
-        formed = record { outbound = ho; inbound = hi; waiting = omega arith; none = refl; finish = refl; place = refl };
+        formed = record { outbound = ho; inbound = hi; waiting = omega arith; none = refl; finish = refl; place = refl; pair = ended-pairs r t′ };
         lasts = λ _ q _. absurd (true≢false (sym lapse ∙ or-first (lapses (received m)) false q));
         sends-data = refl;
         room = λ _. omega arith;
         lawful =
             record {
-              now = ap (λ (z : Ends). permitsOurs z (observe own far (look far x s) (received m)) (abort-of (isServer r))) st ∙ live;
+              now = ap (λ (z : Ends). permitsOurs r z (observe own far (look far x s) (received m)) (abort-of (isServer r))) st ∙ and-both (only-if-true (not (established t′) && (unfinished o || isServer r)) true refl) live;
               ours = own-partial r;
               fits = tt;
               body = omega arith;
+              carries = tt;
             };
       }
 
@@ -122,15 +151,16 @@ module _ (r : Role) (own far : Ration) (x : Session) (s : List ℕ) (f : Formed 
   data-kept : (n : ℕ) (close eof ack late : Bool) (o : Side) (y : Session) → x .sides ≡ sides.Live o side.Open
       → y .sides ≡ sides.Live o (afterData close eof) → y .outbound ≡ x .outbound → y .waiting ≡ x .waiting → y .finish ≡ x .finish
       → inRange (y .inbound) ≡ true → y .inbound ≡ inboundAfter own (endsOf (x .sides)) (x .inbound) (received (data-of n false close eof ack))
-      → At (data-of n false close eof ack) (record { session = y; sent = []; late = late })
+      → pairs r (afterData close eof) o ≡ true → At (data-of n false close eof ack) (record { session = y; sent = []; late = late })
   unfolding fold
-  data-kept n close eof ack late o y e z ob w fi hi ib =
-      let st = ap endsOf z ∙ kept-standing o side.Open (afterData close eof) e in
+  data-kept n close eof ack late o y e z ob w fi hi ib pr =
+      let st = ap endsOf z ∙ kept-standing o side.Open (afterData close eof) e
+      ∙ ap (λ (a : Side). theirs a (endsOf (x .sides))) (sym (data-leaves close eof)) in
       let view : look far y s .sends ≡ look far x s .sends =
       rw (z, w, ob, fi) (kept-sends o side.Open (afterData close eof) e (take (x .waiting) s) (x .outbound) (x .finish)) in
       record {
         seen = seen-path st view ib;
-        formed = kept-formed o side.Open (afterData close eof) e y z (ap inRange ob ∙ f .outbound) hi w fi;
+        formed = kept-formed o side.Open (afterData close eof) e y z (ap inRange ob ∙ f .outbound) hi w fi pr;
         lasts = λ h _ _. ap isReady view ∙ h;
         sends-data = refl;
         room = λ h. rw w h;
@@ -140,36 +170,41 @@ module _ (r : Role) (own far : Ration) (x : Session) (s : List ℕ) (f : Formed 
   counts : {z : Sides} (n : ℕ) → x .sides ≡ z → counted (endsOf z) (x .inbound) n ≡ counted (endsOf (x .sides)) (x .inbound) n
   counts n e = sym (ap (λ (z : Sides). counted (endsOf z) (x .inbound) n) e)
 
-  data-sound : (n : ℕ) (close eof ack : Bool) (o : Side) → x .sides ≡ sides.Live o side.Open
+  data-sound : (n : ℕ) (close eof ack : Bool) (o : Side) → x .sides ≡ sides.Live o side.Open → Possible r (data-of n false close eof ack)
       → Takes (At (data-of n false close eof ack)) (dataTo r x n close o (afterData close eof))
-  data-sound n true eof ack side.Ended e = data-kept n true eof ack true side.Ended _ e refl refl refl refl (f .inbound) (counts n e)
-  data-sound n false eof ack side.Ended e = data-kept n false eof ack true side.Ended _ e refl refl refl refl (f .inbound) (counts n e)
-  data-sound n true eof ack side.Finished e = λ _.
+  data-sound n true eof ack side.Ended e q = data-kept n true eof ack true side.Ended _ e refl refl refl refl (f .inbound) (counts n e) refl
+  data-sound n false eof ack side.Ended e q =
+      data-kept n false eof ack true side.Ended _ e refl refl refl refl (f .inbound) (counts n e) (ended-pairs r (afterData false eof))
+  data-sound n true eof ack side.Finished e q = λ _.
       data-kept n true eof ack false side.Finished _ e refl refl refl refl (minus-in-range (x .inbound) n (f .inbound)) (counts n e)
-  data-sound n false eof ack side.Finished e = λ _.
-      data-kept n false eof ack false side.Finished _ e refl refl refl refl (minus-in-range (x .inbound) n (f .inbound)) (counts n e)
-  data-sound n true eof ack side.Open e = λ _.
+      (from-server r (data-of n false true eof ack) q refl)
+  data-sound n false eof ack side.Finished e q = λ _.
+      data-kept n false eof ack false side.Finished _ e refl refl refl refl (minus-in-range (x .inbound) n (f .inbound)) (counts n e) (goes-on-pairs r side.Finished eof)
+  data-sound n true eof ack side.Open e q = λ _.
       reply-sound (data-of n false true eof ack) side.Open side.Open side.Ended (settled outcome.Complete (spent n x)) e refl refl (ap (λ (z : Sides). theirs side.Ended (endsOf z)) e) (sym (counts n e))
       (f .outbound) (minus-in-range (x .inbound) n (f .inbound))
-  data-sound n false eof ack side.Open e = λ _.
-      data-kept n false eof ack false side.Open _ e refl refl refl refl (minus-in-range (x .inbound) n (f .inbound)) (counts n e)
+  data-sound n false eof ack side.Open e q = λ _.
+      data-kept n false eof ack false side.Open _ e refl refl refl refl (minus-in-range (x .inbound) n (f .inbound)) (counts n e) (goes-on-pairs r side.Open eof)
 
   -- a message that changes nothing but where the far side stands
   moved-sound : (m : SessionMessage) (late : Bool) (o t t′ : Side) (y : Session) → x .sides ≡ sides.Live o t → y .sides ≡ sides.Live o t′
       → y .outbound ≡ x .outbound → y .inbound ≡ x .inbound → y .waiting ≡ x .waiting → y .finish ≡ x .finish
       → theirs t′ (endsOf (x .sides)) ≡ endsAfter (endsOf (x .sides)) (received m) → look far x s .sends ≡ sendsAfter far (look far x s .sends) (received m)
-      → x .inbound ≡ inboundAfter own (endsOf (x .sides)) (x .inbound) (received m) → At m (record { session = y; sent = []; late = late })
+      → x .inbound ≡ inboundAfter own (endsOf (x .sides)) (x .inbound) (received m) → pairs r t′ o ≡ true → At m (record { session = y; sent = []; late = late })
   unfolding fold
-  moved-sound m late o t t′ y e z ob ib w fi st se bo =
+  moved-sound m late o t t′ y e z ob ib w fi st se bo pr =
       let view : look far y s .sends ≡ look far x s .sends = rw (z, w, ob, fi) (kept-sends o t t′ e (take (x .waiting) s) (x .outbound) (x .finish)) in
       record {
         seen = seen-path (ap endsOf z ∙ kept-standing o t t′ e ∙ st) (view ∙ se) (ib ∙ bo);
-        formed = kept-formed o t t′ e y z (ap inRange ob ∙ f .outbound) (ap inRange ib ∙ f .inbound) w fi;
+        formed = kept-formed o t t′ e y z (ap inRange ob ∙ f .outbound) (ap inRange ib ∙ f .inbound) w fi pr;
         lasts = λ h _ _. ap isReady view ∙ h;
         sends-data = refl;
         room = λ h. rw w h;
         lawful = tt;
       }
+
+  still-pairs : (o t : Side) → x .sides ≡ sides.Live o t → pairs r t o ≡ true
+  still-pairs o t e = sym (ap (paired r) e) ∙ f .pair
 
   same-theirs : (o t : Side) → x .sides ≡ sides.Live o t → theirs t (endsOf (x .sides)) ≡ endsOf (x .sides)
   same-theirs o t e = ap (λ (z : Sides). theirs t (endsOf z)) e ∙ sym (ap endsOf e)
@@ -188,24 +223,24 @@ module _ (r : Role) (own far : Ration) (x : Session) (s : List ℕ) (f : Formed 
       sym (ap (λ (z : Sides). withIncrement n (sendsOf far z (take (x .waiting) s) (x .outbound) (x .finish))) e) in
       record {
         seen = seen-path (sym (ap endsOf e)) view refl;
-        formed = kept-formed side.Open t t e _ refl (not-false (inRange (plus (x .outbound) n)) range) (f .inbound) refl refl;
+        formed = kept-formed side.Open t t e _ refl (not-false (inRange (plus (x .outbound) n)) range) (f .inbound) refl refl (still-pairs side.Open t e);
         lasts = λ h _ _. ap isReady view ∙ increment-ready (look far x s .sends) n h;
         sends-data = refl;
         room = λ h. h;
         lawful = tt;
       }
-  increment-sound n side.Finished t e = moved-sound (increment-of n) true side.Finished t t _ e refl refl refl refl refl (same-theirs side.Finished t e) (silent-increment n side.Finished t e refl) refl
-  increment-sound n side.Ended t e = moved-sound (increment-of n) true side.Ended t t _ e refl refl refl refl refl (same-theirs side.Ended t e) (silent-increment n side.Ended t e refl) refl
+  increment-sound n side.Finished t e = moved-sound (increment-of n) true side.Finished t t _ e refl refl refl refl refl (same-theirs side.Finished t e) (silent-increment n side.Finished t e refl) refl (still-pairs side.Finished t e)
+  increment-sound n side.Ended t e = moved-sound (increment-of n) true side.Ended t t _ e refl refl refl refl refl (same-theirs side.Ended t e) (silent-increment n side.Ended t e refl) refl (still-pairs side.Ended t e)
 
   acknowledgment-sound : (o t : Side) → x .sides ≡ sides.Live o t → Takes (At acknowledgment-of) (quietly (sided (sides.Live o t) x))
-  acknowledgment-sound o t e = moved-sound acknowledgment-of false o t t _ e refl refl refl refl refl (same-theirs o t e) refl refl
+  acknowledgment-sound o t e = moved-sound acknowledgment-of false o t t _ e refl refl refl refl refl (same-theirs o t e) refl refl (still-pairs o t e)
 
   far-ended : (o t : Side) → x .sides ≡ sides.Live o t → theirs side.Ended (endsOf (x .sides)) ≡ ends o side.Ended
   far-ended o t e = ap (λ (z : Sides). theirs side.Ended (endsOf z)) e
 
   abort-finished : (p : Bool) (t : Side) → x .sides ≡ sides.Live side.Finished t → (q : Role) → r ≡ q
       → Takes (At (abort-of p)) (abortTo q (settled (aborted p) x) side.Finished side.Ended)
-  abort-finished p t e role.Client z = moved-sound (abort-of p) false side.Finished t side.Ended _ e refl refl refl refl refl refl refl refl
+  abort-finished p t e role.Client z = moved-sound (abort-of p) false side.Finished t side.Ended _ e refl refl refl refl refl refl refl refl (ap isClient z)
   abort-finished p t e role.Server z =
       let y = settled (aborted p) x in
       subst (λ (q : Role). Takes (At (abort-of p)) (replying q side.Ended y)) z
@@ -215,45 +250,45 @@ module _ (r : Role) (own far : Ration) (x : Session) (s : List ℕ) (f : Formed 
   abort-sound p side.Open t e =
       reply-sound (abort-of p) side.Open t side.Ended (settled (aborted p) x) e refl refl (far-ended side.Open t e) refl (f .outbound) (f .inbound)
   abort-sound p side.Finished t e = abort-finished p t e r refl
-  abort-sound p side.Ended t e = moved-sound (abort-of p) false side.Ended t side.Ended _ e refl refl refl refl refl refl refl refl
+  abort-sound p side.Ended t e = moved-sound (abort-of p) false side.Ended t side.Ended _ e refl refl refl refl refl refl refl refl refl
 
-  close-sound : (o t : Side) → x .sides ≡ sides.Live o t → Takes (At close-of) (closeTo r (settled outcome.Complete x) o side.Ended)
-  close-sound side.Open t e =
+  close-sound : (o t : Side) → x .sides ≡ sides.Live o t → isClient r ≡ true → Takes (At close-of) (closeTo r (settled outcome.Complete x) o side.Ended)
+  close-sound side.Open t e c =
       reply-sound close-of side.Open t side.Ended (settled outcome.Complete x) e refl refl (far-ended side.Open t e) refl (f .outbound) (f .inbound)
-  close-sound side.Finished t e = moved-sound close-of false side.Finished t side.Ended _ e refl refl refl refl refl refl refl refl
-  close-sound side.Ended t e = moved-sound close-of false side.Ended t side.Ended _ e refl refl refl refl refl refl refl refl
+  close-sound side.Finished t e c = moved-sound close-of false side.Finished t side.Ended _ e refl refl refl refl refl refl refl refl c
+  close-sound side.Ended t e c = moved-sound close-of false side.Ended t side.Ended _ e refl refl refl refl refl refl refl refl refl
 
   -- a message other than an open Data
-  arriving-sound : (m : SessionMessage) (o t : Side) → x .sides ≡ sides.Live o t → begins m ≡ false → Takes (At m) (arriving r x m o (follow t m))
-  arriving-sound (data-of n true close eof ack) o t e b = absurd (true≢false b)
-  arriving-sound (data-of n false close eof ack) o side.Open e b = data-sound n close eof ack o e
-  arriving-sound (data-of n false close eof ack) o side.Finished e b = tt
-  arriving-sound (data-of n false close eof ack) o side.Ended e b = tt
-  arriving-sound (increment-of n) o side.Open e b = increment-sound n o side.Open e
-  arriving-sound (increment-of n) o side.Finished e b = increment-sound n o side.Finished e
-  arriving-sound (increment-of n) o side.Ended e b = tt
-  arriving-sound (abort-of p) o side.Open e b = abort-sound p o side.Open e
-  arriving-sound (abort-of p) o side.Finished e b = abort-sound p o side.Finished e
-  arriving-sound (abort-of p) o side.Ended e b = tt
-  arriving-sound close-of o side.Open e b = tt
-  arriving-sound close-of o side.Finished e b = close-sound o side.Finished e
-  arriving-sound close-of o side.Ended e b = tt
-  arriving-sound acknowledgment-of o side.Open e b = acknowledgment-sound o side.Open e
-  arriving-sound acknowledgment-of o side.Finished e b = acknowledgment-sound o side.Finished e
-  arriving-sound acknowledgment-of o side.Ended e b = tt
+  arriving-sound : (m : SessionMessage) (o t : Side) → x .sides ≡ sides.Live o t → begins m ≡ false → Possible r m → Takes (At m) (arriving r x m o (follow t m))
+  arriving-sound (data-of n true close eof ack) o t e b q = absurd (true≢false b)
+  arriving-sound (data-of n false close eof ack) o side.Open e b q = data-sound n close eof ack o e q
+  arriving-sound (data-of n false close eof ack) o side.Finished e b q = tt
+  arriving-sound (data-of n false close eof ack) o side.Ended e b q = tt
+  arriving-sound (increment-of n) o side.Open e b q = increment-sound n o side.Open e
+  arriving-sound (increment-of n) o side.Finished e b q = increment-sound n o side.Finished e
+  arriving-sound (increment-of n) o side.Ended e b q = tt
+  arriving-sound (abort-of p) o side.Open e b q = abort-sound p o side.Open e
+  arriving-sound (abort-of p) o side.Finished e b q = abort-sound p o side.Finished e
+  arriving-sound (abort-of p) o side.Ended e b q = tt
+  arriving-sound close-of o side.Open e b q = tt
+  arriving-sound close-of o side.Finished e b q = close-sound o side.Finished e (from-server r close-of q refl)
+  arriving-sound close-of o side.Ended e b q = tt
+  arriving-sound acknowledgment-of o side.Open e b q = acknowledgment-sound o side.Open e
+  arriving-sound acknowledgment-of o side.Finished e b q = acknowledgment-sound o side.Finished e
+  arriving-sound acknowledgment-of o side.Ended e b q = tt
 
-  other-sound : (m : SessionMessage) (z : Sides) → x .sides ≡ z → begins m ≡ false → Takes (At m) (other r x m z)
-  other-sound m sides.Idle e b = tt
-  other-sound m (sides.Opening w) e b = tt
-  other-sound m (sides.Live o t) e b = arriving-sound m o t e b
+  other-sound : (m : SessionMessage) (z : Sides) → x .sides ≡ z → begins m ≡ false → Possible r m → Takes (At m) (other r x m z)
+  other-sound m sides.Idle e b q = tt
+  other-sound m (sides.Opening w) e b q = tt
+  other-sound m (sides.Live o t) e b q = arriving-sound m o t e b q
 
-  accept-sound : inRange own ≡ true → inRange far ≡ true → (n : ℕ) (close eof ack : Bool) → acceptable (x .sides) ≡ true
+  accept-sound : inRange own ≡ true → inRange far ≡ true → (n : ℕ) (close eof ack : Bool) → acceptable (x .sides) ≡ true → Possible r (data-of n true close eof ack)
       → At (data-of n true close eof ack) (record { session = accepted own far n close eof; sent = []; late = false })
   unfolding fold
-  accept-sound ho hf n close eof ack ok =
+  accept-sound ho hf n close eof ack ok q =
       record {
-        seen = refl;
-        formed = record { outbound = hf; inbound = minus-in-range own n ho; waiting = omega arith; none = refl; finish = refl; place = refl };
+        seen = seen-path (ap (ends side.Open) (sym (data-leaves close eof))) refl refl;
+        formed = record { outbound = hf; inbound = minus-in-range own n ho; waiting = omega arith; none = refl; finish = refl; place = refl; pair = accepted-pairs r n close eof ack q };
         lasts = λ h _ _. absurd (false≢true (sym (idle (x .sides) ok) ∙ h));
         sends-data = refl;
         room = λ _. omega arith;
@@ -270,11 +305,11 @@ module _ (r : Role) (own far : Ration) (x : Session) (s : List ℕ) (f : Formed 
       idle (sides.Live side.Ended side.Ended) q = refl
 
   -- whatever message is taken, what is observed of its session is what the session then holds
-  pub receipt-sound : inRange own ≡ true → inRange far ≡ true → (m : SessionMessage) → Takes (At m) (receipt r own far x m)
+  pub receipt-sound : inRange own ≡ true → inRange far ≡ true → (m : SessionMessage) → Possible r m → Takes (At m) (receipt r own far x m)
   unfolding receipt
-  receipt-sound ho hf (data-of n true close eof ack) = λ ok room. accept-sound ho hf n close eof ack (not-false (acceptable (x .sides)) ok)
-  receipt-sound ho hf (data-of n false close eof ack) = other-sound (data-of n false close eof ack) (x .sides) refl refl
-  receipt-sound ho hf (increment-of n) = other-sound (increment-of n) (x .sides) refl refl
-  receipt-sound ho hf (abort-of p) = other-sound (abort-of p) (x .sides) refl refl
-  receipt-sound ho hf close-of = other-sound close-of (x .sides) refl refl
-  receipt-sound ho hf acknowledgment-of = other-sound acknowledgment-of (x .sides) refl refl
+  receipt-sound ho hf (data-of n true close eof ack) q = λ ok room. accept-sound ho hf n close eof ack (not-false (acceptable (x .sides)) ok) q
+  receipt-sound ho hf (data-of n false close eof ack) q = other-sound (data-of n false close eof ack) (x .sides) refl refl q
+  receipt-sound ho hf (increment-of n) q = other-sound (increment-of n) (x .sides) refl refl q
+  receipt-sound ho hf (abort-of p) q = other-sound (abort-of p) (x .sides) refl refl q
+  receipt-sound ho hf close-of q = other-sound close-of (x .sides) refl refl q
+  receipt-sound ho hf acknowledgment-of q = other-sound acknowledgment-of (x .sides) refl refl q

@@ -3,7 +3,7 @@ use mathlib.Core.Path.{_≡_}
 use mathlib.Core.Bool.{Bool, true, false, _||_}
 use mathlib.Core.List.{List, [], _∷_, _++_}
 use Prim.Native.Nat.{ℕ, _≤_, _<_}
-use lib.ListN.{length}
+use lib.ListN.{length, take}
 use Rattle.laws.specs.Runs.{fold}
 use Rattle.ration.specs.declared.Ration.{Ration}
 use Rattle.wire.specs.declared.Role.{Role}
@@ -11,7 +11,7 @@ use Rattle.protocol.specs.declared.Session.{Session}
 use Rattle.protocol.specs.Slot.{slotSize}
 use Rattle.protocol.specs.Message.{SessionMessage, data-of, increment-of, abort-of, close-of, acknowledgment-of}
 use Rattle.protocol.specs.Receipt.{Taken}
-use Rattle.protocol.specs.Observed.{Event, wrote, isReady, anyLapse, observe, mayWrite, fromRole}
+use Rattle.protocol.specs.Observed.{Event, wrote, Sending, silent, sending, isReady, anyLapse, observe, mayWrite, fromRole}
 use Rattle.protocol.proofs.Views.{look, Formed}
 
 -- the messages written, as events
@@ -46,13 +46,26 @@ carried (abort-of partial) = 0
 carried close-of = 0
 carried acknowledgment-of = 0
 
+-- Data that is sent carries the first bytes that wait, with eof all of them
+abbrev pub CarriesData : List ℕ → ℕ → Bool → Sending → Type 0
+CarriesData payload n eof silent = ⊥
+CarriesData payload n eof (sending unsent waiting r finish) = (take n payload ≡ take n waiting) × (eof ≡ true → n ≡ length waiting)
+
+abbrev pub Carries : List ℕ → Sending → SessionMessage → Type 0
+Carries payload v (data-of n begins close eof ack) = CarriesData payload n eof v
+Carries payload v (increment-of n) = Unit {0}
+Carries payload v (abort-of partial) = Unit {0}
+Carries payload v close-of = Unit {0}
+Carries payload v acknowledgment-of = Unit {0}
+
 -- a message that is written: 002 lets us send it when it is written, it is one of our role, its numbers fit,
--- and `payload` has the bytes that follow
+-- and `payload` has the bytes that follow, which are the first that wait
 pub record Lawful (r : Role) (own far : Ration) (x : Session) (s : List ℕ) (h : List Event) (payload : List ℕ) (m : SessionMessage) : Type 0 where
   pub now : mayWrite r far (fold (observe own far) (look far x s) h) m ≡ true
   pub ours : fromRole r m ≡ true
   pub fits : Fits m
   pub body : carried m ≤ length payload
+  pub carries : Carries payload (fold (observe own far) (look far x s) h .sends) m
 
 -- at most one message is written
 abbrev pub AllLawful : Role → Ration → Ration → Session → List ℕ → List Event → List ℕ → List SessionMessage → Type 0

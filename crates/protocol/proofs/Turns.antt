@@ -1,13 +1,13 @@
 -- A turn keeps what is observed of the session that it serves, and sends what is observed to wait.
-use mathlib.Core.Path.{_≡_, refl, sym, ap, _∙_}
+use mathlib.Core.Path.{_≡_, refl, sym, ap, _∙_, subst}
 use mathlib.Core.Bool.{Bool, true, false, not, _&&_, true≢false, false≢true, and-true}
 use mathlib.Core.List.{List, [], _∷_}
 use Prim.Native.Nat.{ℕ, _-_, _≤_, min}
 use native.Mathlib.Omega.{arith}
 use lib.ListN.{length, take, drop, length-drop}
-use lib.Seq.{take-at, length-take-le}
+use lib.Seq.{take-at, take-take, length-take-le}
 use lib.Dec.{eqb}
-use borrow.Author.Tests.{le-leb}
+use borrow.Author.Tests.{le-leb, eqb-true}
 use Rattle.laws.specs.Runs.{fold}
 use Rattle.laws.proofs.Lists.{take-drop}
 use Rattle.laws.proofs.Tests.{and-first, and-second, and-both}
@@ -32,15 +32,15 @@ use Rattle.protocol.specs.Judge.{Effect}
 use Rattle.protocol.specs.Message.{data-of}
 use Rattle.protocol.specs.Session.{afterData}
 use Rattle.protocol.specs.Ask.{smaller, lastData, sends, sending as sendingOf, turnOf, turnAsk, ready, readyIn}
-use Rattle.protocol.specs.Observed.{sending, withData, dueData, ours, mayOpen, permitsOurs, established}
+use Rattle.protocol.specs.Observed.{sending, withData, dueData, Seen, ends, ours, mayOpen, rationOf, permitsOurs}
 use Rattle.protocol.proofs.Plans.{Takes, passes}
-use Rattle.protocol.proofs.Views.{endsOf, sendsOf, look, Formed, seen-path}
+use Rattle.protocol.proofs.Views.{endsOf, sendsOf, look, Formed, seen-path, pairs, paired, due-length}
 use Rattle.protocol.proofs.Slots.{turn-length}
-use Rattle.protocol.proofs.Sound.{Sound}
+use Rattle.protocol.proofs.Sound.{CarriesData, Sound}
 
 -- ---- the bytes that go and those that stay
 
-smaller-waiting : (w : ℕ) (r : Ration) → smaller w r ≤ w
+pub smaller-waiting : (w : ℕ) (r : Ration) → smaller w r ≤ w
 smaller-waiting w (ration.Finite n) = omega arith
 smaller-waiting w ration.Endless = omega arith
 
@@ -95,9 +95,17 @@ plain-flags : (r : Role) (eof : Bool) → dataFlags r false false eof false ≡ 
 plain-flags role.Client eof = refl
 plain-flags role.Server eof = refl
 
-only-if-true : (a b : Bool) → b ≡ true → onlyIf a b ≡ true
-only-if-true true b e = e
-only-if-true false b e = refl
+-- a far side that pairs with ours open is not ended
+open-pairs : (r : Role) (t o : Side) → pairs r t side.Open ≡ true → pairs r t o ≡ true
+open-pairs r side.Open o h = refl
+open-pairs r side.Finished o h = refl
+open-pairs r side.Ended o h = absurd (false≢true h)
+
+data-goes : (r : Role) (t : Side) (v : Seen) (n : ℕ) (eof : Bool) → pairs r t side.Open ≡ true → allows (rationOf (v .sends)) n ≡ true
+    → permitsOurs r (ends side.Open t) v (data-of n false false eof false) ≡ true
+data-goes r side.Open v n eof h k = k
+data-goes r side.Finished v n eof h k = k
+data-goes r side.Ended v n eof h k = absurd (false≢true h)
 
 pub turn-sound : (r : Role) (own far : Ration) (x : Session) (s : List ℕ) → Formed r true x → inRange own ≡ true → inRange far ≡ true → x .waiting ≤ length s
     → Takes (λ t. Sound r own far x s [] s (turnSlot (x .waiting) (x .waiting - t .session .waiting) s) true t) (turnAsk own far x)
@@ -107,6 +115,20 @@ turn-sound r own far x s f ho hf long = go (x .sides) refl
     stays : (n : ℕ) → n ≤ x .waiting → take (x .waiting - n) (turnSlot (x .waiting) (x .waiting - (x .waiting - n)) s) ≡ drop n (take (x .waiting) s)
     stays n h = let e : x .waiting - (x .waiting - n) ≡ n = omega arith in
         ap (λ (k : ℕ). take (x .waiting - n) (turnSlot (x .waiting) k s)) e ∙ turn-slot (x .waiting) n s long h
+
+    -- what goes is what waits first, and all of it with eof
+    carry : (n : ℕ) (u : Bool) (q : Ration) → n ≤ x .waiting → CarriesData s n (lastData x n) (sending u (take (x .waiting) s) q (x .finish))
+    carry n u q h = (
+      sym (take-take n (x .waiting) s h),
+      λ e.
+          let none : x .waiting - n ≡ 0 = eqb-true (x .waiting - n) 0 (and-second (x .finish) (eqb (x .waiting - n) 0) e) in
+          let size = length-take-le (x .waiting) s long in
+          omega arith,
+    )
+
+    carries-at : (n : ℕ) (z : Sides) → x .sides ≡ z → CarriesData s n (lastData x n) (sendsOf far z (take (x .waiting) s) (x .outbound) (x .finish))
+        → CarriesData s n (lastData x n) (look far x s .sends)
+    carries-at n z e c = subst (λ (y : Sides). CarriesData s n (lastData x n) (sendsOf far y (take (x .waiting) s) (x .outbound) (x .finish))) (sym e) c
 
     go : (z : Sides) → x .sides ≡ z → Takes (λ t. Sound r own far x s [] s (turnSlot (x .waiting) (x .waiting - t .session .waiting) s) true t) (turnOf own far x z)
     go sides.Idle e = tt
@@ -128,6 +150,7 @@ turn-sound r own far x s f ho hf long = go (x .sides) refl
                 none = after-none x n side.Open;
                 finish = after-finish x n side.Open;
                 place = refl;
+                pair = refl;
               };
           lasts = λ _ _ q. absurd (true≢false q);
           sends-data = refl;
@@ -138,9 +161,11 @@ turn-sound r own far x s f ho hf long = go (x .sides) refl
                 ours = open-flags r (lastData x n) client;
                 fits = omega arith;
                 body = omega arith;
+                carries = carries-at n (sides.Opening b) e (carry n true far k);
               };
         }
     go (sides.Live side.Open t) e = λ due.
+        let open-pair : pairs r t side.Open ≡ true = sym (ap (paired r) e) ∙ f .pair in
         let n = smaller (x .waiting) (x .outbound) in
         let k = smaller-waiting (x .waiting) (x .outbound) in
         let small = f .waiting in
@@ -157,6 +182,7 @@ turn-sound r own far x s f ho hf long = go (x .sides) refl
                 none = after-none x n t;
                 finish = after-finish x n t;
                 place = refl;
+                pair = open-pairs r t (afterData false (lastData x n)) open-pair;
               };
           lasts = λ _ _ q. absurd (true≢false q);
           sends-data = refl;
@@ -164,11 +190,12 @@ turn-sound r own far x s f ho hf long = go (x .sides) refl
           lawful =
               record {
                 now =
-                    ap (λ (z : Sides). permitsOurs (endsOf z) (record { standing = endsOf z; sends = sendsOf far z (take (x .waiting) s) (x .outbound) (x .finish); inbound = x .inbound }) (data-of n false false (lastData x n) false)) e
-                    ∙ only-if-true (established t) (allows (x .outbound) n) (smaller-allowed (x .waiting) (x .outbound));
+                    ap (λ (z : Sides). permitsOurs r (endsOf z) (record { standing = endsOf z; sends = sendsOf far z (take (x .waiting) s) (x .outbound) (x .finish); inbound = x .inbound }) (data-of n false false (lastData x n) false)) e
+                    ∙ data-goes r t (record { standing = ends side.Open t; sends = sending false (take (x .waiting) s) (x .outbound) (x .finish); inbound = x .inbound }) n (lastData x n) open-pair (smaller-allowed (x .waiting) (x .outbound));
                 ours = plain-flags r (lastData x n);
                 fits = omega arith;
                 body = omega arith;
+                carries = carries-at n (sides.Live side.Open t) e (carry n false (x .outbound) k);
               };
         }
     go (sides.Live side.Finished t) e = tt
@@ -184,7 +211,7 @@ turn-sends own far x s long = go (x .sides) refl
     size = length-take-le (x .waiting) s long
 
     sent : (u : Bool) (q : Ration) → data-of (smaller (x .waiting) q) u false (lastData x (smaller (x .waiting) q)) false ∷ [] ≡ dueData (sending u (take (x .waiting) s) q (x .finish)) ∷ []
-    sent u q = rw size
+    sent u q = rw (size, due-length (x .waiting) q)
 
     go : (z : Sides) → x .sides ≡ z → Takes (λ t. t .sent ≡ dueData (look far x s .sends) ∷ []) (turnOf own far x z)
     go sides.Idle e = tt

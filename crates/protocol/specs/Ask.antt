@@ -1,7 +1,7 @@
 -- What a local call does to its session, with which message; or 4, 5, 6, 7, 9, 12.
 use Prim.Native.Nat.{ℕ, _-_, min}
 use mathlib.Core.Bool.{Bool, true, false, not, _&&_, _||_}
-use mathlib.Core.List.{List, [], _∷_}
+use mathlib.Core.List.{[], _∷_}
 use lib.Dec.{eqb, ltb}
 use Rattle.laws.specs.Pick.{pick}
 use Rattle.ration.specs.declared.Ration.{Ration}

@@ -2,7 +2,6 @@
 use Prim.Native.Nat.{ℕ}
 use mathlib.Core.Bool.{Bool, true, false, not}
 use mathlib.Core.List.{List, [], _∷_}
-use lib.ListN.{length}
 use lib.Dec.{eqb, ltb, leb}
 use Rattle.laws.specs.Result.{Result, ok, refused, violation}
 use Rattle.laws.specs.Circle.{nearest}
@@ -18,11 +17,11 @@ use Rattle.protocol.specs.declared.Ping.{Ping}
 use Rattle.protocol.specs.declared.Ping.the-variants as ping
 use Rattle.protocol.specs.declared.Connection.{Connection}
 use Rattle.protocol.specs.Slot.{queueSize, turnRoom}
-use Rattle.protocol.specs.Plan.{Plan, stop, check, take, settle, andThen}
+use Rattle.protocol.specs.Plan.{Plan, check, take, settle, andThen}
 use Rattle.protocol.specs.Receipt.{Taken}
 use Rattle.protocol.specs.Ask.{openAsk, putAsk, finishAsk, grantAsk, abortAsk, closeAsk, turnAsk, ready}
 use Rattle.protocol.specs.Connection.{own-shutdown, line-lost, at, roleOf, exchanged, ownStart, farStart, wellFormed}
-use Rattle.protocol.specs.Judge.{Report, done, served, header, Out, opening, sent, Effect, Decision, refuse, accept, with-stage, with-ping, with-session, ends-by, breach, judge}
+use Rattle.protocol.specs.Judge.{done, served, header, Out, opening, sent, Effect, Decision, refuse, accept, with-stage, with-ping, with-session, ends-by, breach, judge}
 
 -- ---- the checks that calls share
 

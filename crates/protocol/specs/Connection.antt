@@ -1,11 +1,10 @@
 -- One end of a connection: just made, well formed, and how it ends.
 use Prim.Native.Nat.{ℕ}
-use mathlib.Core.Bool.{Bool, true, false, not, _&&_, _||_}
+use mathlib.Core.Bool.{Bool, true, false, not, _&&_}
 use mathlib.Core.List.{List, [], _∷_, map}
-use lib.ListN.{getD, set, replicate}
+use lib.ListN.{getD, replicate}
 use lib.Dec.{eqb, ltb, leb}
 use Rattle.ration.specs.declared.Ration.{Ration}
-use Rattle.ration.specs.declared.Ration.the-variants as ration
 use Rattle.ration.specs.Ration.{fromHeader, inRange}
 use Rattle.wire.specs.declared.Role.{Role}
 use Rattle.wire.specs.declared.Role.the-variants as role
@@ -17,7 +16,6 @@ use Rattle.protocol.specs.declared.Outcome.the-variants as outcome
 use Rattle.protocol.specs.declared.Session.{Session}
 use Rattle.protocol.specs.declared.Stage.{Stage}
 use Rattle.protocol.specs.declared.Stage.the-variants as stage
-use Rattle.protocol.specs.declared.Ping.{Ping}
 use Rattle.protocol.specs.declared.Ping.the-variants as ping
 use Rattle.protocol.specs.declared.Connection.{Connection}
 use Rattle.protocol.specs.declared.Setup.{Setup}

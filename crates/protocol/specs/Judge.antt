@@ -1,11 +1,9 @@
 -- What a message received does to the connection: the judging sees no bytes.
 use Prim.Native.Nat.{ℕ}
-use mathlib.Core.Bool.{Bool, true, false, not}
+use mathlib.Core.Bool.{Bool, false, not}
 use mathlib.Core.List.{List, [], _∷_, map}
 use lib.Dec.{eqb}
 use lib.ListN.{set}
-use Rattle.wire.specs.declared.Role.{Role}
-use Rattle.wire.specs.declared.Role.the-variants as role
 use Rattle.wire.specs.declared.Message.{Message}
 use Rattle.wire.specs.declared.Message.the-variants as msg
 use Rattle.protocol.specs.declared.Session.{Session}
@@ -15,7 +13,7 @@ use Rattle.protocol.specs.declared.Ping.{Ping}
 use Rattle.protocol.specs.declared.Ping.the-variants as ping
 use Rattle.protocol.specs.declared.Connection.{Connection}
 use Rattle.protocol.specs.Plan.{Plan, stop, check, take, settle}
-use Rattle.protocol.specs.Message.{SessionMessage, Scope, whole, of-session, scope, numbered}
+use Rattle.protocol.specs.Message.{Scope, whole, of-session, scope, numbered}
 use Rattle.protocol.specs.Receipt.{Taken, receipt}
 use Rattle.protocol.specs.Connection.{Cause, shutdown-received, error-received, line-lost, at, roleOf, ownStart, farStart, ended}
 

@@ -11,3 +11,6 @@ pub mod Call
 pub mod Queue
 pub mod Result
 pub mod Observed
+pub mod Asked
+pub mod Totals
+pub mod Fate

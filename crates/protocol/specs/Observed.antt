@@ -1,22 +1,51 @@
--- What calls, their answers and the messages on the line tell of one session number. No state of the engine is named.
+-- What calls, their answers and the messages on the line tell of the connection and of one session number. No state of the
+-- engine is named.
 use Prim.Native.Nat.{ℕ, _-_}
 use mathlib.Core.Bool.{Bool, true, false, not, _&&_, _||_}
 use mathlib.Core.List.{List, [], _∷_, _++_}
 use lib.ListN.{length, drop}
-use lib.Dec.{eqb}
+use lib.Dec.{eqb, leb}
+use Rattle.laws.specs.Pick.{pick}
 use Rattle.ration.specs.declared.Ration.{Ration}
 use Rattle.ration.specs.declared.Ration.the-variants as ration
-use Rattle.ration.specs.Ration.{allows, inRange, plus, minus}
+use Rattle.ration.specs.Ration.{fromHeader, allows, inRange, plus, minus}
 use Rattle.wire.specs.declared.Role.{Role}
 use Rattle.wire.specs.declared.Role.the-variants as role
 use Rattle.wire.specs.Message.{isClient, isServer, onlyIf, dataFlags}
 use Rattle.protocol.specs.declared.Side.{Side}
 use Rattle.protocol.specs.declared.Side.the-variants as side
 use Rattle.protocol.specs.Message.{SessionMessage, data-of, increment-of, abort-of, close-of, acknowledgment-of}
-use Rattle.protocol.specs.Session.{afterData}
-use Rattle.protocol.specs.Ask.{positive, smaller}
 
--- what happens to a session number: a call of ours is taken, a message is taken, a message is written
+-- ---- the connection as a whole
+
+-- the headers so far: none, ours alone, or both, with the number of the far one
+pub data Greeting : Type 0 where
+  no-header own-header : Greeting
+  both-headers : ℕ → Greeting
+
+abbrev pub greeted : Greeting → Bool
+greeted no-header = false
+greeted own-header = false
+greeted (both-headers far) = true
+
+-- the start that the far header grants; before it nothing is sent, so nothing rests on it
+abbrev pub startTold : Greeting → Ration
+startTold no-header = ration.Endless
+startTold own-header = ration.Endless
+startTold (both-headers far) = fromHeader far
+
+-- the cookie of a Ping of ours that is not answered
+pub data Pinging : Type 0 where
+  no-ping : Pinging
+  pinged : ℕ → Pinging
+
+abbrev pub awaits : Pinging → ℕ → Bool
+awaits no-ping k = false
+awaits (pinged j) k = eqb j k
+
+-- ---- what happens to a session number
+
+-- a call of ours is taken, a message is taken, a message is written
 pub data Event : Type 0 where
   opens finishes aborts : Event
   puts : List ℕ → Event
@@ -72,11 +101,15 @@ abbrev pub isEmpty : List ℕ → Bool
 isEmpty [] = true
 isEmpty (b ∷ bs) = false
 
+abbrev pub anyLeft : Ration → Bool
+anyLeft (ration.Finite n) = not (eqb n 0)
+anyLeft ration.Endless = true
+
 -- its opening is unsent, or it has bytes waiting and ration left, or nothing waiting and its end to announce
 abbrev pub isReady : Sending → Bool
 isReady silent = false
 isReady (sending true waiting r finish) = true
-isReady (sending false waiting r finish) = not (isEmpty waiting) && positive r || isEmpty waiting && finish
+isReady (sending false waiting r finish) = not (isEmpty waiting) && anyLeft r || isEmpty waiting && finish
 
 -- what ends a wait beside the number's own Data: its abort, or an Abort, Close or close flag received
 abbrev pub lapses : Event → Bool
@@ -122,20 +155,26 @@ unfinished side.Open = true
 unfinished side.Finished = false
 unfinished side.Ended = false
 
+-- where Data leaves its sender: the close flag terminates, eof finishes
+abbrev pub dataLeaves : Bool → Bool → Side
+dataLeaves true eof = side.Ended
+dataLeaves false true = side.Finished
+dataLeaves false false = side.Open
+
 -- an open Data message establishes a session with respect to both ends
 abbrev pub endsAfter : Ends → Event → Ends
 endsAfter v opens = v
 endsAfter v finishes = v
 endsAfter v aborts = v
 endsAfter v (puts bytes) = v
-endsAfter v (received (data-of n true close eof ack)) = ends side.Open (afterData close eof)
-endsAfter v (received (data-of n false close eof ack)) = theirs (afterData close eof) v
+endsAfter v (received (data-of n true close eof ack)) = ends side.Open (dataLeaves close eof)
+endsAfter v (received (data-of n false close eof ack)) = theirs (dataLeaves close eof) v
 endsAfter v (received (increment-of n)) = v
 endsAfter v (received (abort-of partial)) = theirs side.Ended v
 endsAfter v (received close-of) = theirs side.Ended v
 endsAfter v (received acknowledgment-of) = v
-endsAfter v (wrote (data-of n true close eof ack)) = ends (afterData close eof) side.Open
-endsAfter v (wrote (data-of n false close eof ack)) = ours (afterData close eof) v
+endsAfter v (wrote (data-of n true close eof ack)) = ends (dataLeaves close eof) side.Open
+endsAfter v (wrote (data-of n false close eof ack)) = ours (dataLeaves close eof) v
 endsAfter v (wrote (increment-of n)) = v
 endsAfter v (wrote (abort-of partial)) = ours side.Ended v
 endsAfter v (wrote close-of) = ours side.Ended v
@@ -194,13 +233,34 @@ observe own far v e =
       inbound = inboundAfter own (v .standing) (v .inbound) e;
     }
 
+-- ---- what is answered
+
+-- a message that ends its session is answered with an Abort where our end is unfinished, and at a server also where it is
+-- finished and an Abort comes
+abbrev pub answered : Role → Side → SessionMessage → Bool
+answered r o (data-of n begins close eof ack) = not begins && close && unfinished o
+answered r o (increment-of n) = false
+answered r o (abort-of partial) = established o && onlyIf (isClient r) (unfinished o)
+answered r o close-of = unfinished o
+answered r o acknowledgment-of = false
+
+-- a server's Abort sets partial
+abbrev pub repliesTo : Role → Ends → SessionMessage → List SessionMessage
+repliesTo r unused m = []
+repliesTo r (ends o t) m = pick (answered r o m) (abort-of (isServer r) ∷ []) []
+
 -- ---- what a turn sends
+
+-- as many bytes as wait, or as the ration has left where that is less
+abbrev pub dueLength : ℕ → Ration → ℕ
+dueLength waiting (ration.Finite n) = pick (leb waiting n) waiting n
+dueLength waiting ration.Endless = waiting
 
 -- the smaller of waiting and ration as length, open if unsent, eof exactly if finish was taken and nothing remains
 abbrev pub dueData : Sending → SessionMessage
 dueData silent = data-of 0 false false false false
 dueData (sending unsent waiting r finish) =
-    data-of (smaller (length waiting) r) unsent false (finish && eqb (length waiting - smaller (length waiting) r) 0) false
+    data-of (dueLength (length waiting) r) unsent false (finish && eqb (length waiting - dueLength (length waiting) r) 0) false
 
 -- ---- what 002 lets an end send now
 
@@ -213,7 +273,8 @@ finished side.Ended = false
 abbrev pub reusable : Side → Side → Bool
 reusable client server = not (established server) && not (unfinished client)
 
--- a message other than an open Data, from an end to the other; `r` is the ration of what it sends, `back` that of what it receives
+-- a message other than an open Data, from an end to the other; `r` is the ration of what it sends, `back` that of what it receives.
+-- 002 asks of an Acknowledgment also that it was required: that is not looked at
 abbrev pub permits : Side → Side → Ration → Ration → SessionMessage → Bool
 permits sender receiver r back (data-of n begins close eof ack) =
     not begins && unfinished sender && onlyIf (established receiver) (allows r n)
@@ -232,9 +293,19 @@ mayOpen r unused = true
 mayOpen role.Client (ends o t) = reusable o t
 mayOpen role.Server (ends o t) = reusable t o
 
-abbrev pub permitsOurs : Ends → Seen → SessionMessage → Bool
-permitsOurs unused v m = false
-permitsOurs (ends o t) v m = permits o t (rationOf (v .sends)) (v .inbound) m
+abbrev pub isAbort : SessionMessage → Bool
+isAbort (data-of n begins close eof ack) = false
+isAbort (increment-of n) = false
+isAbort (abort-of partial) = true
+isAbort close-of = false
+isAbort acknowledgment-of = false
+
+-- once the far end has terminated the session only an Abort may go, except that a finished client may go on; the far end may not
+-- know yet that we have
+abbrev pub permitsOurs : Role → Ends → Seen → SessionMessage → Bool
+permitsOurs r unused v m = false
+permitsOurs r (ends o t) v m =
+    onlyIf (not (established t) && (unfinished o || isServer r)) (isAbort m) && permits o t (rationOf (v .sends)) (v .inbound) m
 
 abbrev pub permitsTheirs : Ends → Seen → SessionMessage → Bool
 permitsTheirs unused v m = false
@@ -243,11 +314,11 @@ permitsTheirs (ends o t) v m = permits t o (v .inbound) (rationOf (v .sends)) m
 -- our end may send the message now; an open Data of a client's spends the far start
 abbrev pub mayWrite : Role → Ration → Seen → SessionMessage → Bool
 mayWrite r far v (data-of n true close eof ack) = isClient r && mayOpen r (v .standing) && allows far n
-mayWrite r far v (data-of n false close eof ack) = permitsOurs (v .standing) v (data-of n false close eof ack)
-mayWrite r far v (increment-of n) = permitsOurs (v .standing) v (increment-of n)
-mayWrite r far v (abort-of partial) = permitsOurs (v .standing) v (abort-of partial)
-mayWrite r far v close-of = permitsOurs (v .standing) v close-of
-mayWrite r far v acknowledgment-of = permitsOurs (v .standing) v acknowledgment-of
+mayWrite r far v (data-of n false close eof ack) = permitsOurs r (v .standing) v (data-of n false close eof ack)
+mayWrite r far v (increment-of n) = permitsOurs r (v .standing) v (increment-of n)
+mayWrite r far v (abort-of partial) = permitsOurs r (v .standing) v (abort-of partial)
+mayWrite r far v close-of = permitsOurs r (v .standing) v close-of
+mayWrite r far v acknowledgment-of = permitsOurs r (v .standing) v acknowledgment-of
 
 -- the far end may send the message now; an open Data of a client's spends our start
 abbrev pub mayArrive : Role → Ration → Seen → SessionMessage → Bool
@@ -257,6 +328,28 @@ mayArrive r own v (increment-of n) = permitsTheirs (v .standing) v (increment-of
 mayArrive r own v (abort-of partial) = permitsTheirs (v .standing) v (abort-of partial)
 mayArrive r own v close-of = permitsTheirs (v .standing) v close-of
 mayArrive r own v acknowledgment-of = permitsTheirs (v .standing) v acknowledgment-of
+
+-- ---- why a message may not arrive: it is wrong where the session stands (25), above the ration (26), or past the largest (27)
+
+abbrev pub ifSo : Bool → ℕ → ℕ → ℕ
+ifSo true n m = n
+ifSo false n m = m
+
+abbrev pub wrongOf : Ends → SessionMessage → ℕ
+wrongOf unused m = 25
+wrongOf (ends o t) (data-of n begins close eof ack) = ifSo (unfinished t) 26 25
+wrongOf (ends o t) (increment-of n) = ifSo (established t) 27 25
+wrongOf (ends o t) (abort-of partial) = 25
+wrongOf (ends o t) close-of = 25
+wrongOf (ends o t) acknowledgment-of = 25
+
+abbrev pub wrongNumber : Role → Ends → SessionMessage → ℕ
+wrongNumber r st (data-of n true close eof ack) = ifSo (isServer r && mayOpen r st) 26 25
+wrongNumber r st (data-of n false close eof ack) = wrongOf st (data-of n false close eof ack)
+wrongNumber r st (increment-of n) = wrongOf st (increment-of n)
+wrongNumber r st (abort-of partial) = wrongOf st (abort-of partial)
+wrongNumber r st close-of = wrongOf st close-of
+wrongNumber r st acknowledgment-of = wrongOf st acknowledgment-of
 
 -- the type and the flags are ones that an end of the role may send at all
 abbrev pub fromRole : Role → SessionMessage → Bool

@@ -1,7 +1,6 @@
 -- A rule: checks in their order, each with the number that it refuses with, and then what is done.
 use Prim.Native.Nat.{ℕ}
 use mathlib.Core.Bool.{Bool, true, false}
-use Rattle.laws.specs.Result.{Result, ok, refused, violation}
 
 pub data Plan (A : Type 0) : Type 0 where
   stop : ℕ → Plan A

@@ -1,13 +1,10 @@
 -- A session, seen from one end: its sides, how its own messages move a side, and the ways in which a session is rebuilt.
-use Prim.Native.Nat.{ℕ, _+_, _-_}
+use Prim.Native.Nat.{ℕ, _+_}
 use mathlib.Core.Bool.{Bool, true, false}
-use Rattle.ration.specs.declared.Ration.{Ration}
 use Rattle.ration.specs.declared.Ration.the-variants as ration
 use Rattle.ration.specs.Ration.{plus, minus}
 use Rattle.protocol.specs.declared.Side.{Side}
 use Rattle.protocol.specs.declared.Side.the-variants as side
-use Rattle.protocol.specs.declared.Before.{Before}
-use Rattle.protocol.specs.declared.Before.the-variants as before
 use Rattle.protocol.specs.declared.Sides.{Sides}
 use Rattle.protocol.specs.declared.Sides.the-variants as sides
 use Rattle.protocol.specs.declared.Outcome.{Outcome}

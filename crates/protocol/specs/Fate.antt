@@ -1,0 +1,67 @@
+-- What becomes of a client's session, which 01 calls its fate; told from calls, answers and messages.
+use mathlib.Core.Bool.{Bool, true, false}
+use Rattle.protocol.specs.declared.Outcome.{Outcome}
+use Rattle.protocol.specs.declared.Outcome.the-variants as outcome
+use Rattle.protocol.specs.Message.{data-of, increment-of, abort-of, close-of, acknowledgment-of}
+use Rattle.protocol.specs.Observed.{Event, opens, finishes, aborts, puts, received, wrote}
+
+pub data Fate : Type 0 where
+  no-fate running complete may-be-retried must-not-be-retried : Fate
+
+-- the names of the outcomes that a session holds
+abbrev pub fateOf : Outcome → Fate
+fateOf outcome.None = no-fate
+fateOf outcome.Running = running
+fateOf outcome.Complete = complete
+fateOf outcome.MayRetry = may-be-retried
+fateOf outcome.MustNotRetry = must-not-be-retried
+
+-- only a running fate changes
+abbrev pub ifRunning : Fate → Fate → Fate
+ifRunning no-fate new = no-fate
+ifRunning running new = new
+ifRunning complete new = complete
+ifRunning may-be-retried new = may-be-retried
+ifRunning must-not-be-retried new = must-not-be-retried
+
+-- what was sent must not be retried, an open that is unsent may be
+abbrev pub unlessUnsent : Bool → Fate
+unlessUnsent true = may-be-retried
+unlessUnsent false = must-not-be-retried
+
+-- an Abort received tells by its partial flag
+abbrev pub byPartial : Bool → Fate
+byPartial true = must-not-be-retried
+byPartial false = may-be-retried
+
+-- a close flag completes
+abbrev pub byClose : Bool → Fate → Fate
+byClose true f = ifRunning f complete
+byClose false f = f
+
+-- an open starts it anew, and a session that a server accepts has none; `unsent` says whether an open of ours is unsent
+abbrev pub fateAfter : Bool → Fate → Event → Fate
+fateAfter unsent f opens = running
+fateAfter unsent f finishes = f
+fateAfter unsent f aborts = ifRunning f (unlessUnsent unsent)
+fateAfter unsent f (puts bytes) = f
+fateAfter unsent f (received (data-of n true close eof ack)) = no-fate
+fateAfter unsent f (received (data-of n false close eof ack)) = byClose close f
+fateAfter unsent f (received (increment-of n)) = f
+fateAfter unsent f (received (abort-of partial)) = ifRunning f (byPartial partial)
+fateAfter unsent f (received close-of) = ifRunning f complete
+fateAfter unsent f (received acknowledgment-of) = f
+fateAfter unsent f (wrote m) = f
+
+-- ---- the end of the connection
+
+pub data Ended : Type 0 where
+  not-ended by-shutdown by-error by-own-shutdown by-lost-line : Ended
+
+-- a Shutdown received: may be retried; an Error received or a lost line: not, where it was sent; our own shutdown changes nothing
+abbrev pub fateEnded : Bool → Ended → Fate → Fate
+fateEnded unsent not-ended f = f
+fateEnded unsent by-shutdown f = ifRunning f may-be-retried
+fateEnded unsent by-error f = ifRunning f (unlessUnsent unsent)
+fateEnded unsent by-own-shutdown f = f
+fateEnded unsent by-lost-line f = ifRunning f (unlessUnsent unsent)
