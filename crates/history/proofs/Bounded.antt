@@ -18,12 +18,12 @@ use Rattle.protocol.specs.Queue.{slot}
 use Rattle.protocol.specs.Message.{numbered}
 use Rattle.protocol.specs.Receipt.{Taken}
 use Rattle.protocol.specs.Ask as ask
-use Rattle.protocol.specs.Connection.{at, exchanged, farStart}
+use Rattle.protocol.specs.Connection.{at, farStart}
 use Rattle.protocol.specs.Judge.{Report, served, Out, Decision, refuse, violate, accept, with-session}
 use Rattle.protocol.specs.Call.{nextReady}
 use Rattle.protocol.specs.Result.{bytesOfAll}
-use Rattle.protocol.specs.Observed.{Sending, isReady, dueData}
-use Rattle.protocol.proofs.Views.{ready-look}
+use Rattle.protocol.specs.Observed.{greeted, Sending, isReady, dueData}
+use Rattle.protocol.proofs.Views.{greeted-is, ready-look}
 use Rattle.history.specs.Log.{Call, turn, State, Entry, decide, payloadOf, nextBy, outBy, next, out, made}
 use Rattle.history.specs.Log as log
 use Rattle.history.specs.Account.{Line, Account, observed}
@@ -70,7 +70,7 @@ module _ (setup : Setup) where
       ∙ ap (λ (z : Setup). dataWritten z (outBy s (turn room) (accept (with-session (s .connection) n n (served n) t)))) (sym (same-setup setup s o)) ∙ g .by-turn
 
   -- the queue keeps its length
-  run-long : (s : State) (ks : List Call) → Ok setup s → length (run next out s ks .queue) ≡ length (s .queue)
+  pub run-long : (s : State) (ks : List Call) → Ok setup s → length (run next out s ks .queue) ≡ length (s .queue)
   unfolding run next
   run-long s [] o = refl
   run-long s (k ∷ ks) o =
@@ -159,7 +159,7 @@ module _ (setup : Setup) (hh : setup .header < 65_536) (queue : List ℕ) (ks : 
         may =
             record {
               not-over = ap (λ (l : Line). l .over) line ∙ cl .not-over;
-              up = ap (λ (l : Line). exchanged (l .stage)) line ∙ cl .up;
+              up = ap (λ (l : Line). greeted (l .greeting)) line ∙ greeted-is (log.run setup queue ks .connection .stage) ∙ cl .up;
               roomy = cl .roomy;
               whole-queue = sym (run-long setup (made setup queue) ks (made-ok setup hh queue)) ∙ cl .whole-queue;
             };
@@ -177,7 +177,7 @@ module _ (setup : Setup) (hh : setup .header < 65_536) (queue : List ℕ) (ks : 
       let line : observed setup 0 (log.log setup queue ks) .line ≡ lineOf (log.run setup queue ks .connection) = ap (λ (a : Account). a .line) (observed-is setup hh queue ks 0 (omega arith)) in
       record {
         not-over = sym (ap (λ (l : Line). l .over) line) ∙ z .not-over;
-        up = sym (ap (λ (l : Line). exchanged (l .stage)) line) ∙ z .up;
+        up = sym (greeted-is (log.run setup queue ks .connection .stage)) ∙ sym (ap (λ (l : Line). greeted (l .greeting)) line) ∙ z .up;
         roomy = z .roomy;
         whole-queue = run-long setup (made setup queue) ks (made-ok setup hh queue) ∙ z .whole-queue;
       }

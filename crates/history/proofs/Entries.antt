@@ -1,5 +1,5 @@
 -- Every entry of a log comes from a call, made after the calls before it: from the way logs split.
-use mathlib.Core.Path.{_≡_, refl}
+use mathlib.Core.Path.{_≡_, refl, subst}
 use mathlib.Core.List.{List, [], _∷_, _++_}
 use Prim.Native.Nat.{ℕ}
 use native.Mathlib.Omega.{arith}
@@ -29,6 +29,13 @@ module _ (setup : Setup) (queue : List ℕ) where
       go x =
           let y = first-of (log.run setup queue (x .early)) (x .later) (x .second) in
           record { before = x .early; call = y .0; log-before = x .first; entry = y .1 }
+
+  -- what holds of a call after any calls holds of every entry of a log
+  pub of-entries : (P : List Entry → Entry → Type 0) → ((ks : List Call) (k : Call) → P (log.log setup queue ks) (out (log.run setup queue ks) k))
+      → (ks : List Call) (a c : List Entry) (e : Entry) → log.log setup queue ks ≡ a ++ (e ∷ c) → P a e
+  of-entries P f ks a c e h =
+      let x = entry-at ks a c e h in
+      subst (λ (l : List Entry). P l e) (x .log-before) (subst (P (log.log setup queue (x .before))) (x .entry) (f (x .before) (x .call)))
 
 -- an entry tells its call
 pub called : (s : State) (k : Call) → out s k .call ≡ k

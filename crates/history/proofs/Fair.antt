@@ -27,7 +27,8 @@ use Rattle.history.specs.Log.{Call, State, Entry, decide, payloadOf, nex
 use Rattle.history.specs.Log as log
 use Rattle.history.specs.Account.{Account, events}
 use Rattle.history.specs.Claims.{ready, dataNumber, dataWritten, has, isOver, lapse, waitsOn, Waits}
-use Rattle.history.proofs.Good.{Ok, setupOf, ownOf, holds, readyAt, own-has}
+use Rattle.history.proofs.Good.{Ok, setupOf, ownOf, holds, readyAt}
+use Rattle.history.proofs.Sessions.{own-has}
 use Rattle.history.proofs.Receives.{GoodBy}
 use Rattle.history.proofs.Simulation.{decide-good, base, queue-refused, queue-violated, ended-holds, taken, taken-holds, accepted-holds, by-number, same-setup, own-ok, next-ok, observed-is, run-made}
 

@@ -1,40 +1,38 @@
 -- What every state of a run keeps, and what a call that is taken does to it; the statement that each call's step proves.
-use mathlib.Core.Path.{_≡_, refl, sym, ap, _∙_, subst}
-use mathlib.Core.Logic.{_⊎_, inl}
-use mathlib.Core.Bool.{Bool, true, false, _||_, or-false}
-use mathlib.Core.List.{List, [], _∷_, _++_, map}
+use mathlib.Core.Path.{_≡_}
+use mathlib.Core.Logic.{_⊎_}
+use mathlib.Core.Bool.{Bool, true, false}
+use mathlib.Core.List.{List, [], _∷_}
 use Prim.Native.Nat.{ℕ, _≤_, _<_}
-use lib.ListN.{length}
+use lib.ListN.{length, drop}
+use Rattle.laws.specs.Circle.{gap}
 use Rattle.laws.specs.Result.{ok}
-use Rattle.laws.specs.Runs.{fold}
+use Rattle.laws.specs.Runs.{fold, Every}
+use Rattle.laws.proofs.Runs.{Move}
 use Rattle.ration.specs.declared.Ration.{Ration}
 use Rattle.ration.specs.Ration.{fromHeader}
-use Rattle.wire.specs.declared.Role.{Role}
-use Rattle.wire.specs.Message.{readMessage}
-use Rattle.protocol.specs.declared.Session.{Session}
 use Rattle.protocol.specs.declared.Stage.{Stage}
 use Rattle.protocol.specs.declared.Setup.{Setup}
 use Rattle.protocol.specs.declared.Connection.{Connection}
 use Rattle.protocol.specs.Queue.{slot}
-use Rattle.protocol.specs.Message.{SessionMessage, data-of, increment-of, abort-of, close-of, acknowledgment-of, numbered}
 use Rattle.protocol.specs.Receipt.{Taken}
-use Rattle.protocol.specs.Connection.{at, roleOf, exchanged, farNumber, farStart}
-use Rattle.protocol.specs.Judge.{Report, sent, Effect, accept, with-session, commit}
-use Rattle.protocol.specs.Result.{bytesOfAll}
-use Rattle.protocol.specs.Observed.{Event, observe, Seen, isReady, lapses, anyLapse}
-use Rattle.laws.specs.Circle.{gap}
-use Rattle.laws.proofs.Runs.{Move, still, serves}
-use Rattle.laws.proofs.Tests.{true-false}
-use borrow.Author.Tests.{eq-eqb}
-use Rattle.protocol.proofs.Views.{look, Formed}
-use Rattle.protocol.proofs.Sound.{Sound, AllLawful, writes, isData, anyData}
+use Rattle.protocol.specs.Connection.{Cause, at, roleOf, exchanged, farNumber, farStart}
+use Rattle.protocol.specs.Judge.{Report, Ending, goes-on, ends, Effect, accept, with-session, commit}
+use Rattle.protocol.specs.Observed.{Event, observe, Seen, isReady, anyLapse}
+use Rattle.protocol.proofs.Views.{greetingOf, pingingOf, look, Formed}
+use Rattle.protocol.proofs.Sound.{Sound}
+use Rattle.protocol.specs.Asked.{isUnsent}
+use Rattle.protocol.specs.Fate.{fateOf, fateAfter, Ended, not-ended}
+use Rattle.protocol.proofs.Fates.{endedBy}
+use Rattle.protocol.proofs.Legal.{AllLegal}
 use Rattle.history.specs.Log.{Call, State, queueAfter, payloadOf, outBy}
-use Rattle.history.specs.Account.{Line, lineAfter, events, reported, writtenMessage}
-use Rattle.history.specs.Claims.{dataNumber, dataWritten, isTurn, has}
-use Rattle.history.proofs.Written.{nothing-refused, numbered-read, written-own, written-other, nothing-read}
+use Rattle.history.specs.Account.{Line, lineAfter, events, reported, reportedOf, Account}
+use Rattle.history.specs.Fates.{endTold}
+use Rattle.history.specs.Meant.{meantFor, meantOfAll, meantBy, ReadAs, mayGo}
+use Rattle.history.specs.Claims.{dataWritten, isTurn, has, Fitting}
 
 abbrev pub lineOf : Connection → Line
-lineOf c = record { over = c .over; stage = c .stage; ping = c .ping }
+lineOf c = record { over = c .over; greeting = greetingOf (c .stage); pinging = pingingOf (c .ping) }
 
 abbrev pub ownOf : Setup → Ration
 ownOf setup = fromHeader (setup .header)
@@ -45,6 +43,9 @@ farBy s = fromHeader (farNumber s)
 -- what the state holds of a number
 abbrev pub holds : State → ℕ → Seen
 holds s n = look (farStart (s .connection)) (at (s .connection) n) (slot n (s .queue))
+
+abbrev pub accountOf : State → ℕ → Account
+accountOf s n = record { line = lineOf (s .connection); seen = holds s n }
 
 -- what the connection was made from
 abbrev pub setupOf : Connection → Setup
@@ -66,6 +67,10 @@ pub record Ok (setup : Setup) (s : State) : Type 0 where
   pub fits : (n : ℕ) → n < 128 → at (s .connection) n .waiting ≤ length (slot n (s .queue))
 
 -- ---- a call that is taken
+
+abbrev pub endedAs : Ending → Ended
+endedAs goes-on = not-ended
+endedAs (ends cause) = endedBy cause
 
 -- the Data message of the number, or none
 abbrev pub one : Bool → ℕ → List ℕ
@@ -93,6 +98,21 @@ pub record Good (setup : Setup) (s : State) (k : Call) (e : Effect) : Type 0 whe
   pub lasts : readyAt s (e .number) ≡ true → anyLapse (events (setup .role) (e .number) (outBy s k (accept e))) ≡ false
       → has (e .number) (dataWritten setup (outBy s k (accept e))) ≡ false
       → isReady (look (farBy (e .stage)) (e .session) (slot (e .number) (queueAfter (s .connection) (s .queue) k (accept e))) .sends) ≡ true
+  -- before the headers are exchanged, and by the report of a turn, no number is told anything
+  pub unmoved : exchanged (s .connection .stage) ≡ false → events (setup .role) (e .number) (outBy s k (accept e)) ≡ []
+  pub untold : isTurn k ≡ true → reported (e .number) k (e .report) ≡ []
+  -- the outcome is what the report makes of it, and where the connection ends nothing else is told or changed
+  pub fated : fateOf (e .session .outcome)
+      ≡ fold (fateAfter (isUnsent (holds s (e .number) .sends))) (fateOf (at (s .connection) (e .number) .outcome)) (reported (e .number) k (e .report))
+  pub ends-so : endTold k (ok (e .report)) ≡ endedAs (e .ending)
+  pub end-alone : (cause : Cause) → e .ending ≡ ends cause → (e .session ≡ at (s .connection) (e .number)) × (reported (e .number) k (e .report) ≡ [])
+  pub live : s .connection .over ≡ false
+  pub concerns : reportedOf k (e .report) ≡ e .number
+  pub means : e .outs ≡ meantBy setup (accountOf s (e .number)) k (ok (e .report))
+  pub reads : Fitting k → ReadAs (setup .role) (outBy s k (accept e) .wrote) (e .outs)
+  pub allowed : Every (mayGo setup (accountOf s (e .number)) (outBy s k (accept e))) (e .outs)
+  pub legal : AllLegal (setup .role) (ownOf setup) (farStart (s .connection)) (drop 4 (outBy s k (accept e) .wrote)) (holds s (e .number))
+      (events (setup .role) (e .number) (outBy s k (accept e)))
 
 -- the mark stays, or moves to the nearest ready number, whose Data message is written
 abbrev pub Mark : State → ℕ → ℕ → Bool → Type 0
@@ -115,97 +135,12 @@ pub record ForSession (setup : Setup) (s : State) (k : Call) (n last : ℕ) (rep
       → slot m (queueAfter (s .connection) (s .queue) k (accept (with-session (s .connection) n last rep t))) ≡ slot m (s .queue)
   pub long : length (queueAfter (s .connection) (s .queue) k (accept (with-session (s .connection) n last rep t))) ≡ length (s .queue)
   pub line : lineAfter (lineOf (s .connection)) (outBy s k (accept (with-session (s .connection) n last rep t))) ≡ lineOf (s .connection)
-
-module _ (r : Role) (own far : Ration) (x : Session) (sl : List ℕ) (h : List Event) (n : ℕ) (hn : n < 128) (payload : List ℕ) where
-  -- what is written for a session is read as those events, and as none of another number
-  wrote-own : (ms : List SessionMessage) → AllLawful r own far x sl h payload ms
-      → writtenMessage n (readMessage r (bytesOfAll payload (map (λ m. sent (numbered n m)) ms))) ≡ writes ms
-  wrote-own [] l = nothing-read r payload n
-  wrote-own (m ∷ []) l = ap (writtenMessage n) (numbered-read r n m payload hn (l .ours) (l .fits) (l .body)) ∙ written-own n m
-  wrote-own (m ∷ j ∷ ms) l = absurd l
-
-  wrote-other : (i : ℕ) → (n ≡ i → ⊥) → (ms : List SessionMessage) → AllLawful r own far x sl h payload ms
-      → writtenMessage i (readMessage r (bytesOfAll payload (map (λ m. sent (numbered n m)) ms))) ≡ []
-  wrote-other i d [] l = nothing-read r payload i
-  wrote-other i d (m ∷ []) l = ap (writtenMessage i) (numbered-read r n m payload hn (l .ours) (l .fits) (l .body)) ∙ written-other i n m d
-  wrote-other i d (m ∷ j ∷ ms) l = absurd l
-
-data-of-numbered : (n : ℕ) (m : SessionMessage) → dataNumber (ok (numbered n m)) ≡ one (isData m) n
-data-of-numbered n (data-of k b c e a) = refl
-data-of-numbered n (increment-of k) = refl
-data-of-numbered n (abort-of p) = refl
-data-of-numbered n close-of = refl
-data-of-numbered n acknowledgment-of = refl
-
-data-sent : (r : Role) (own far : Ration) (x : Session) (sl : List ℕ) (h : List Event) (n : ℕ) → n < 128 → (payload : List ℕ) (ms : List SessionMessage) (d : Bool)
-    → AllLawful r own far x sl h payload ms → anyData ms ≡ d → dataNumber (readMessage r (bytesOfAll payload (map (λ m. sent (numbered n m)) ms))) ≡ one d n
-data-sent r own far x sl h n hn payload [] d l e = nothing-number r payload ∙ ap (λ (b : Bool). one b n) e
-  where
-    nothing-number : (r : Role) (payload : List ℕ) → dataNumber (readMessage r (bytesOfAll payload [])) ≡ []
-    nothing-number r payload = ap dataNumber (nothing-refused r payload)
-data-sent r own far x sl h n hn payload (m ∷ []) d l e =
-    ap dataNumber (numbered-read r n m payload hn (l .ours) (l .fits) (l .body)) ∙ data-of-numbered n m ∙ ap (λ (b : Bool). one b n) (sym (or-false (isData m)) ∙ e)
-data-sent r own far x sl h n hn payload (m ∷ j ∷ ms) d l e = absurd l
-
-lapse-first : (h k : List Event) → anyLapse (h ++ k) ≡ false → anyLapse h ≡ false
-lapse-first [] k e = refl
-lapse-first (a ∷ h) k e = go (lapses a) (lapse-first h k) e
-  where
-    go : (b : Bool) → (anyLapse (h ++ k) ≡ false → anyLapse h ≡ false) → (b || anyLapse (h ++ k)) ≡ false → (b || anyLapse h) ≡ false
-    go true rest z = z
-    go false rest z = rest z
-
-pub own-has : (n : ℕ) → has n (n ∷ []) ≡ true
-own-has n = ap (λ (b : Bool). b || false) (eq-eqb n n refl)
-
-module _ (setup : Setup) (s : State) (k : Call) (n last : ℕ) (rep : Report) (h : List Event) (t : Taken) (o : Ok setup s) where
-  written-data : (d : Bool) → ForSession setup s k n last rep h d t → dataWritten setup (outBy s k (accept (with-session (s .connection) n last rep t))) ≡ one d n
-  written-data d g =
-      data-sent (setup .role) (ownOf setup) (farStart (s .connection)) (at (s .connection) n) (slot n (s .queue)) h n (g .inside)
-      (payloadOf (s .queue) k (accept (with-session (s .connection) n last rep t))) (t .sent) d (g .sound .lawful) (g .sound .sends-data)
-
-  moved : (d : Bool) → ForSession setup s k n last rep h d t
-      → Move (readyAt s) (s .connection .last) last (dataWritten setup (outBy s k (accept (with-session (s .connection) n last rep t))))
-  moved true g = serves n (written-data true g) (g .mark .0) (g .inside) (g .mark .1)
-  moved false g = still (written-data false g) (g .mark)
-
-  lasting : (d : Bool) (g : ForSession setup s k n last rep h d t) (es : List Event) → es ≡ h ++ writes (t .sent) → readyAt s n ≡ true → anyLapse es ≡ false
-      → has n (dataWritten setup (outBy s k (accept (with-session (s .connection) n last rep t)))) ≡ false
-      → isReady (look (farStart (s .connection)) (t .session) (slot n (queueAfter (s .connection) (s .queue) k (accept (with-session (s .connection) n last rep t)))) .sends) ≡ true
-  lasting true g es e hr hl hd = absurd (true-false (own-has n) (sym (ap (has n) (written-data true g)) ∙ hd))
-  lasting false g es e hr hl hd = g .sound .lasts hr (lapse-first h (writes (t .sent)) (sym (ap anyLapse e) ∙ hl)) (g .sound .sends-data)
-
-pub session-good : (setup : Setup) (s : State) (k : Call) (n last : ℕ) (rep : Report) (h : List Event) (d : Bool) (t : Taken) → Ok setup s
-    → ForSession setup s k n last rep h d t → Good setup s k (with-session (s .connection) n last rep t)
-session-good setup s k n last rep h d t o g =
-    let e = with-session (s .connection) n last rep t in
-    let x = at (s .connection) n in
-    let sl = slot n (s .queue) in
-    let far = farStart (s .connection) in
-    let payload = payloadOf (s .queue) k (accept e) in
-    let own-events =
-    wrote-own (setup .role) (ownOf setup) far x sl h n (g .inside) payload (t .sent) (g .sound .lawful) in
-    record {
-      inside = g .inside;
-      last = g .last-inside;
-      role = o .role;
-      far = o .far;
-      stages = inl refl;
-      formed = subst (λ (b : Bool). Formed (setup .role) b (t .session)) (sym (g .up)) (g .sound .formed);
-      fits = g .sound .room (o .fits n (g .inside));
-      seen =
-          g .sound .seen
-          ∙ ap (λ (es : List Event). fold (observe (ownOf setup) far) (look far x sl) es) (sym (append-path (g .told) own-events));
-      others =
-          λ m d. append-path (g .not-told m d)
-          (wrote-other (setup .role) (ownOf setup) far x sl h n (g .inside) payload m d (t .sent) (g .sound .lawful));
-      frame = g .frame;
-      long = g .long;
-      line = g .line;
-      moves = moved setup s k n last rep h t o d g;
-      by-turn = written-data setup s k n last rep h t o d g ∙ ap (λ (b : Bool). one b n) (g .turns);
-      lasts = lasting setup s k n last rep h t o d g (events (setup .role) n (outBy s k (accept e))) (append-path (g .told) own-events);
-    }
-  where
-    append-path : {a b c d : List Event} → a ≡ b → c ≡ d → a ++ c ≡ b ++ d
-    append-path p q = rw (p, q)
+  pub untold : isTurn k ≡ true → h ≡ []
+  pub fated : fateOf (t .session .outcome) ≡ fold (fateAfter (isUnsent (holds s n .sends))) (fateOf (at (s .connection) n .outcome)) h
+  pub goes-on : endTold k (ok rep) ≡ not-ended
+  pub live : s .connection .over ≡ false
+  pub concerns : reportedOf k rep ≡ n
+  pub sends : t .sent ≡ meantFor (setup .role) k rep (holds s n)
+  pub quiet : meantOfAll setup k rep ≡ []
+  -- what is told may happen, whatever is written then
+  pub heard : (payload : List ℕ) → AllLegal (setup .role) (ownOf setup) (farStart (s .connection)) payload (holds s n) h

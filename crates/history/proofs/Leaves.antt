@@ -1,90 +1,92 @@
--- What a call that is not taken leaves, for every state: from the shape of the decisions alone.
-use mathlib.Core.Path.{_≡_, refl, sym, ap, _∙_}
-use mathlib.Core.Bool.{true, false}
+-- refused-leaves: what a call that is not taken leaves, for every state; from the shape of the decisions and their numbers.
+use mathlib.Core.Path.{_≡_, refl, sym, ap, _∙_, subst}
+use mathlib.Core.Bool.{Bool, true, false, true≢false}
 use mathlib.Core.List.{List, []}
-use Prim.Native.Nat.{ℕ}
-use lib.ListN.{length}
-use Rattle.laws.specs.Result.{Result, ok, refused, violation}
-use Rattle.laws.proofs.Results.{refused-not-ok, violation-not-ok, violation-not-refused}
-use Rattle.wire.specs.declared.Role.{Role}
-use Rattle.wire.specs.declared.Role.the-variants as role
-use Rattle.wire.specs.declared.Message.{Message}
-use Rattle.wire.specs.Message.{readMessage}
-use Rattle.wire.specs.Connection.{readConnectionHeader}
+use Prim.Native.Nat.{ℕ, _≤_, _<_}
+use native.Mathlib.Omega.{arith}
+use lib.Dec.{leb}
+use borrow.Author.Tests.{ltb-true, leb-true}
+use Rattle.laws.specs.Result.{ok, refused, violation}
+use Rattle.laws.proofs.Results.{refused-same, violation-same, refused-not-ok, violation-not-ok, violation-not-refused}
+use Rattle.protocol.specs.declared.Connection.{Connection}
+use Rattle.protocol.specs.declared.Session.{Session}
 use Rattle.protocol.specs.declared.Stage.{Stage}
 use Rattle.protocol.specs.declared.Stage.the-variants as stage
-use Rattle.protocol.specs.declared.Connection.{Connection}
-use Rattle.protocol.specs.Plan.{Plan, stop, check, take, settle}
-use Rattle.protocol.specs.Message.{Scope, whole, of-session, scope}
-use Rattle.protocol.specs.Receipt.{receipt}
-use Rattle.protocol.specs.Connection.{Cause, line-lost, at, roleOf, ownStart, farStart, ended}
-use Rattle.protocol.specs.Judge.{Report, message, Effect, Breach, Decision, refuse, violate, accept, with-session, errorAfter, breach, judgeWhole, judgeScope, judge}
-use Rattle.protocol.specs.Call.{otherEnd, headerTaken, messageTaken, reading, receiveGate, receiveRule}
-use Rattle.protocol.specs.Result.{bytesOfAll}
-use Rattle.history.specs.Log.{Call, start, open-session, put, finish, turn, grant, abort, close, shutdown, lost, receive, State, decide, payloadOf, gives, nextBy, outBy, next, out}
+use Rattle.protocol.specs.Plan.{Plan, settle}
+use Rattle.protocol.specs.Connection.{Cause, shutdown-received, error-received, own-shutdown, line-lost, at, wellFormed, ending, ended}
+use Rattle.protocol.specs.Judge.{Report, done, served, header, message, Effect, Breach, Decision, refuse, violate, accept, errorAfter}
+use Rattle.protocol.specs.Result.{bytesOfAll, over, usedBy, startOf, endOf}
+use Rattle.history.specs.Log.{Call, start, open-session, put, finish, turn, grant, abort, close, shutdown, lost, receive, roomOf, State, decide, payloadOf, nextBy, outBy, next, out}
 use Rattle.history.specs.Log as log
-use Rattle.history.specs.Claims.{RefusedLeaves}
-use Rattle.history.proofs.Simulation.{queue-refused, queue-violated}
+use Rattle.protocol.proofs.Plans.{settled, stops-all, takes-all}
+use Rattle.history.specs.Claims.{takesInput, SameButOutcome, OnlyOver, errorBytes, RefusedLeaves}
+use Rattle.history.proofs.Simulation.{ended-at, queue-refused, queue-violated}
+use Rattle.history.proofs.Rulings.{Ruled, decide-ruled, decide-ill}
 
--- a violation is a breach: a lost line, answered with Error
+-- a refusal is below 20
+abbrev Below : Decision → Type 0
+Below (refuse n) = n < 20
+Below (violate b) = Unit {0}
+Below (accept e) = Unit {0}
+
+-- a violation is a breach from 20 up: a lost line, answered with Error
 abbrev Breaches : Connection → Decision → Type 0
 Breaches c (refuse n) = Unit {0}
-Breaches c (violate b) = (b .cause ≡ line-lost) × (b .reply ≡ errorAfter (c .stage) (c .own))
+Breaches c (violate b) = (leb 20 (b .code) ≡ true) × (b .cause ≡ line-lost) × (b .reply ≡ errorAfter (c .stage) (c .own))
 Breaches c (accept e) = Unit {0}
 
-module _ (c : Connection) where
-  plain : {A : Type 0} (f : A → Decision) → ((a : A) → Breaches c (f a)) → (p : Plan A) → Breaches c (settle refuse f p)
-  unfolding settle
-  plain f g (stop n) = tt
-  plain f g (check true n p) = tt
-  plain f g (check false n p) = plain f g p
-  plain f g (take a) = g a
+by-rule : (c : Connection) (d : Decision) → Ruled c d → Below d × Breaches c d
+by-rule c (refuse n) h = (let k = ltb-true n 14 h in omega arith, tt)
+by-rule c (violate b) h = (tt, h)
+by-rule c (accept e) h = (tt, tt)
 
-  judged : {A : Type 0} (f : A → Decision) → ((a : A) → Breaches c (f a)) → (p : Plan A) → Breaches c (settle (breach c) f p)
-  unfolding settle
-  judged f g (stop n) = (refl, refl)
-  judged f g (check true n p) = (refl, refl)
-  judged f g (check false n p) = judged f g p
-  judged f g (take a) = g a
+-- the end of a connection touches outcomes alone
+same-ending : (cause : Cause) (x : Session) → SameButOutcome (ending cause x) x
+same-ending shutdown-received x = record { sides = refl; outbound = refl; inbound = refl; waiting = refl; finish = refl }
+same-ending error-received x = record { sides = refl; outbound = refl; inbound = refl; waiting = refl; finish = refl }
+same-ending own-shutdown x = record { sides = refl; outbound = refl; inbound = refl; waiting = refl; finish = refl }
+same-ending line-lost x = record { sides = refl; outbound = refl; inbound = refl; waiting = refl; finish = refl }
 
-  local : (p : Plan Effect) → Breaches c (settle refuse accept p)
-  local p = plain accept (λ e. tt) p
+pub only-over : (cause : Cause) (c : Connection) → OnlyOver c (ended cause c)
+only-over cause c =
+    record {
+      over = refl;
+      stage = refl;
+      own = refl;
+      last = refl;
+      ping = refl;
+      sessions = λ n. subst (λ (x : Session). SameButOutcome x (at c n)) (sym (ended-at cause c n)) (same-ending cause (at c n));
+    }
 
-  by-header : (r : Role) (h : Result ℕ) → Breaches c (headerTaken c r h)
-  by-header r (ok far) = tt
-  by-header r (refused n) = tt
-  by-header r (violation n) = (refl, refl)
+error-bytes : (st : Stage) (own : ℕ) → bytesOfAll [] (errorAfter st own) ≡ errorBytes st own
+unfolding bytesOfAll
+error-bytes (stage.Fresh r) own = refl
+error-bytes stage.Started own = refl
+error-bytes (stage.Up r far) own = refl
 
-  by-scope : (m : Message) (z : Scope) → Breaches c (judgeScope c m z)
-  by-scope m whole = judged accept (λ e. tt) (judgeWhole c m)
-  by-scope m (of-session i sm) =
-      judged (λ t. accept (with-session c i (c .last) (message m (t .late)) t)) (λ t. tt) (receipt (roleOf (c .stage)) (ownStart c) (farStart c) (at c i) sm)
+-- ---- only a receive finds a violation
 
-  by-message : (h : Result Message) → Breaches c (messageTaken c h)
-  unfolding judge
-  by-message (ok m) = by-scope m (scope m)
-  by-message (refused n) = tt
-  by-message (violation n) = (refl, refl)
+abbrev pub Violates : Decision → Type 0
+Violates (refuse n) = ⊥
+Violates (violate b) = Unit {0}
+Violates (accept e) = ⊥
 
-  by-stage : (input : List ℕ) (st : Stage) → Breaches c (reading c input st)
-  by-stage input (stage.Fresh r) = by-header r (readConnectionHeader input)
-  by-stage input stage.Started = by-header role.Client (readConnectionHeader input)
-  by-stage input (stage.Up r far) = by-message (readMessage (otherEnd r) input)
+local-not : (p : Plan Effect) → Violates (settle refuse accept p) → ⊥
+local-not p = settled (λ d. Violates d → ⊥) refuse accept p (stops-all (λ n h. h) p) (takes-all (λ e h. h) p)
 
-  breaches : (q : List ℕ) (k : Call) → Breaches c (decide c q k)
-  unfolding receiveRule
-  breaches q (start room) = local _
-  breaches q (open-session n) = local _
-  breaches q (put n bytes) = local _
-  breaches q (finish n) = local _
-  breaches q (turn room) = local _
-  breaches q (grant n amount room) = local _
-  breaches q (abort n partial room) = local _
-  breaches q (close n room) = local _
-  breaches q (log.ping cookie room) = local _
-  breaches q (shutdown room) = local _
-  breaches q lost = local _
-  breaches q (receive input room) = plain (λ go. reading c input (c .stage)) (λ go. by-stage input (c .stage)) (receiveGate c (length room))
+pub violated-receive : (c : Connection) (q : List ℕ) (k : Call) → Violates (decide c q k) → (input room : List ℕ) × (k ≡ receive input room)
+violated-receive c q (start room) h = absurd (local-not _ h)
+violated-receive c q (open-session n) h = absurd (local-not _ h)
+violated-receive c q (put n bytes) h = absurd (local-not _ h)
+violated-receive c q (finish n) h = absurd (local-not _ h)
+violated-receive c q (turn room) h = absurd (local-not _ h)
+violated-receive c q (grant n amount room) h = absurd (local-not _ h)
+violated-receive c q (abort n partial room) h = absurd (local-not _ h)
+violated-receive c q (close n room) h = absurd (local-not _ h)
+violated-receive c q (log.ping cookie room) h = absurd (local-not _ h)
+violated-receive c q (shutdown room) h = absurd (local-not _ h)
+violated-receive c q lost h = absurd (local-not _ h)
+violated-receive c q (receive input room) h = (input, room, refl)
 
 -- a call that is not taken has no payload
 no-payload : (q : List ℕ) (k : Call) (b : Breach) → payloadOf q k (violate b) ≡ []
@@ -102,32 +104,61 @@ no-payload q lost b = refl
 no-payload q (receive input room) b = refl
 
 module _ (s : State) (k : Call) where
-  refusal-by : (d : Decision) (n : ℕ) → outBy s k d .answer ≡ refused n → (nextBy s k d ≡ s) × (outBy s k d .wrote ≡ [])
-  refusal-by (refuse j) n e = (ap (λ (q : List ℕ). record { connection = s .connection; queue = q }) (queue-refused (s .connection) (s .queue) k j), refl)
-  refusal-by (violate b) n e = absurd (violation-not-refused e)
-  refusal-by (accept x) n e = absurd (refused-not-ok (sym e))
+  -- what a refusal leaves, by its number
+  refusal-by : (d : Decision) → Below d → (n : ℕ) → outBy s k d .answer ≡ refused n
+      → (n < 20) × (nextBy s k d ≡ s) × (outBy s k d .wrote ≡ []) × (over (outBy s k d .wrote) (roomOf k) ≡ roomOf k)
+  refusal-by (refuse j) h n e = (
+    subst (λ (m : ℕ). m < 20) (refused-same e) h,
+    ap (λ (q : List ℕ). record { connection = s .connection; queue = q }) (queue-refused (s .connection) (s .queue) k j),
+    refl,
+    refl,
+  )
+  refusal-by (violate b) h n e = absurd (violation-not-refused e)
+  refusal-by (accept x) h n e = absurd (refused-not-ok (sym e))
 
   violated-by : (d : Decision) → Breaches (s .connection) d → (n : ℕ) → outBy s k d .answer ≡ violation n
-      → (nextBy s k d .connection ≡ ended line-lost (s .connection)) × (nextBy s k d .queue ≡ s .queue)
-      × (outBy s k d .wrote ≡ bytesOfAll [] (errorAfter (s .connection .stage) (s .connection .own)))
+      → (20 ≤ n) × OnlyOver (s .connection) (nextBy s k d .connection) × (nextBy s k d .queue ≡ s .queue)
+      × (outBy s k d .wrote ≡ errorBytes (s .connection .stage) (s .connection .own))
   violated-by (refuse j) h n e = absurd (violation-not-refused (sym e))
   violated-by (violate b) h n e = (
-    ap (λ (z : Cause). ended z (s .connection)) (h .0),
+    subst (λ (m : ℕ). 20 ≤ m) (violation-same e) (leb-true 20 (b .code) (h .0)),
+    only-over (b .cause) (s .connection),
     queue-violated (s .connection) (s .queue) k b,
-    ap (λ (p : List ℕ). bytesOfAll p (b .reply)) (no-payload (s .queue) k b) ∙ ap (bytesOfAll []) (h .1),
+    ap (λ (p : List ℕ). bytesOfAll p (b .reply)) (no-payload (s .queue) k b) ∙ ap (bytesOfAll []) (h .2) ∙ error-bytes (s .connection .stage) (s .connection .own),
   )
   violated-by (accept x) h n e = absurd (violation-not-ok (sym e))
 
-  unused-by : (d : Decision) → ((r : Report) → outBy s k d .answer ≡ ok r → ⊥) → gives s k d .used ≡ 0
-  unused-by (refuse j) h = refl
-  unused-by (violate b) h = refl
-  unused-by (accept x) h = absurd (h (x .report) refl)
+  unused-by : (d : Decision) → takesInput (outBy s k d .answer) ≡ false → (outBy s k d .used ≡ 0) × (outBy s k d .start ≡ 0) × (outBy s k d .end ≡ 0)
+  unused-by (refuse j) h = (refl, refl, refl)
+  unused-by (violate b) h = (refl, refl, refl)
+  unused-by (accept x) h = go (x .report) h
+    where
+      go : (r : Report) → takesInput (ok r) ≡ false → (usedBy r ≡ 0) × (startOf r ≡ 0) × (endOf r ≡ 0)
+      go done e = (refl, refl, refl)
+      go (served n) e = (refl, refl, refl)
+      go (header far) e = absurd (true≢false e)
+      go (message m late) e = absurd (true≢false e)
+
+  -- an answer that is a violation comes from a decision that is one
+  violation-of : (d : Decision) (n : ℕ) → outBy s k d .answer ≡ violation n → Violates d
+  violation-of (refuse j) n e = violation-not-refused (sym e)
+  violation-of (violate b) n e = tt
+  violation-of (accept x) n e = violation-not-ok (sym e)
+
+  -- well formed or not
+  ruled : (b : Bool) → wellFormed (s .connection) ≡ b → Below (decide (s .connection) (s .queue) k) × Breaches (s .connection) (decide (s .connection) (s .queue) k)
+  ruled true e = by-rule (s .connection) (decide (s .connection) (s .queue) k) (decide-ruled (s .connection) e (s .queue) k)
+  ruled false e =
+      subst (λ (d : Decision). Below d × Breaches (s .connection) d) (sym (decide-ill (s .connection) e (s .queue) k))
+      (let h : 14 < 20 = omega arith in (h, tt))
 
   pub refused-leaves : RefusedLeaves s k
   unfolding next out
   refused-leaves =
+      let h = ruled (wellFormed (s .connection)) refl in
       record {
-        refusal = refusal-by (decide (s .connection) (s .queue) k);
-        violated = violated-by (decide (s .connection) (s .queue) k) (breaches (s .connection) (s .queue) k);
+        refusal = refusal-by (decide (s .connection) (s .queue) k) (h .0);
+        violated = violated-by (decide (s .connection) (s .queue) k) (h .1);
         unused = unused-by (decide (s .connection) (s .queue) k);
+        receives = λ n e. violated-receive (s .connection) (s .queue) k (violation-of (decide (s .connection) (s .queue) k) n e);
       }

@@ -1,6 +1,7 @@
 -- The claims over every log, and what they stand on.
 pub mod Written
 pub mod Good
+pub mod Sessions
 pub mod Steps
 pub mod Moves
 pub mod Lines
@@ -9,7 +10,22 @@ pub mod Simulation
 pub mod Fair
 pub mod Turning
 pub mod Entries
+pub mod Rulings
 pub mod Never
 pub mod Bounded
 pub mod Leaves
+pub mod Reading
 pub mod Taking
+pub mod Played
+pub mod Case6
+pub mod ServerRun
+pub mod Lapses
+pub mod Filling
+pub mod Full
+pub mod Speaking
+pub mod Balances
+pub mod Counting
+pub mod Contracts
+pub mod Answering
+pub mod Outcomes
+pub mod Ends

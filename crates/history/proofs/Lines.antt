@@ -1,15 +1,15 @@
 -- The calls that concern the connection as a whole keep what is observed: no session number sees anything happen.
 use mathlib.Core.Path.{_≡_, refl, sym, ap, _∙_, subst}
 use mathlib.Core.Logic.{_⊎_, inl, inr}
-use mathlib.Core.Bool.{Bool, true, false, false≢true, true≢false, and-false}
+use mathlib.Core.Bool.{Bool, true, false, not, false≢true, true≢false, and-false}
 use mathlib.Core.List.{List, [], _∷_, _++_}
 use Prim.Native.Nat.{ℕ, _≤_, _<_}
 use native.Mathlib.Omega.{arith}
-use lib.ListN.{length, take}
+use lib.ListN.{length, take, drop}
 use Rattle.laws.specs.Pick.{pick}
 use Rattle.laws.specs.Result.{Result, ok, refused, violation}
-use Rattle.laws.specs.Runs.{fold}
-use Rattle.laws.proofs.Tests.{not-false}
+use Rattle.laws.specs.Runs.{fold, Every}
+use Rattle.laws.proofs.Tests.{true-false, and-both, not-false}
 use Rattle.ration.specs.declared.Ration.{Ration}
 use Rattle.wire.specs.declared.Role.{Role}
 use Rattle.wire.specs.declared.Role.the-variants as role
@@ -32,13 +32,18 @@ use Rattle.protocol.specs.Call.{startRule, pingRule, shutdownRule, lostRule, is
 use Rattle.protocol.specs.Result.{bytesOfAll}
 use Rattle.protocol.specs.Observed.{Event, observe, Seen, isReady}
 use Rattle.protocol.proofs.Plans.{Takes}
-use Rattle.protocol.proofs.Views.{sendsOf, look, seen-path, Formed}
+use Rattle.protocol.specs.Asked.{isUnsent}
+use Rattle.protocol.specs.Fate.{fateOf, fateAfter}
+use Rattle.protocol.proofs.Legal.{AllLegal}
+use Rattle.protocol.proofs.Views.{greetingOf, greeted-is, sendsOf, look, seen-path, Formed}
 use Rattle.history.specs.Log.{Call, start, shutdown, lost, State, queueAfter, outBy}
 use Rattle.history.specs.Log as log
-use Rattle.history.specs.Account.{lineAfter, events, reported, writtenMessage, inScope}
-use Rattle.history.proofs.Good.{Ok, Good, setupOf, lineOf, holds, ownOf, farBy, one}
-use Rattle.history.proofs.Written.{Sendable, sent-read, nothing-read, only-own}
-use Rattle.history.specs.Claims.{dataNumber, dataWritten, isTurn}
+use Rattle.history.specs.Account.{lineAfter, events, reported, reportedOf, writtenMessage, inScope}
+use Rattle.history.specs.Fates.{endTold}
+use Rattle.history.specs.Meant.{ungreeted, meantBy, ReadAs, mayGo}
+use Rattle.history.proofs.Good.{Ok, Good, endedAs, setupOf, lineOf, holds, accountOf, ownOf, farBy, one}
+use Rattle.history.proofs.Written.{Sendable, sent-read, sent-read-back, opening-read-back, nothing-read-back, nothing-read, only-own}
+use Rattle.history.specs.Claims.{dataNumber, dataWritten, isTurn, Fitting}
 use Rattle.laws.proofs.Runs.{still}
 
 -- ---- what is written is of no session
@@ -60,6 +65,10 @@ ping-no-event r cookie n = refl
 append-empty : (a b : List Event) → a ++ b ≡ [] → b ≡ []
 append-empty [] b e = e
 append-empty (x ∷ a) b e = absurd (let z : _≡_ {A = ℕ} 0 1 = cc in omega arith)
+
+pub append-first : (a b : List Event) → a ++ b ≡ [] → a ≡ []
+append-first [] b e = refl
+append-first (x ∷ a) b e = absurd (let z : _≡_ {A = ℕ} 0 1 = cc in omega arith)
 
 -- what no session sees is no Data message
 no-data : (r : Result Message) → ((n : ℕ) → writtenMessage n r ≡ []) → dataNumber r ≡ []
@@ -87,6 +96,7 @@ idle-formed {r} {x} b f =
       none = f .none;
       finish = f .finish;
       place = go (x .sides) (f .place);
+      pair = f .pair;
     }
   where
     go : (z : Sides) → placed r false z ≡ true → placed r b z ≡ true
@@ -126,9 +136,12 @@ module _ (s : State) (o : Ok (setupOf (s .connection)) s) where
       → (st ≡ s .connection .stage) ⊎ (exchanged (s .connection .stage) ≡ false)
       → ((m : ℕ) → events (roleOf (s .connection .stage)) m (outBy s k (accept (lineEffect st p en rep outs))) ≡ [])
       → lineAfter (lineOf (s .connection)) (outBy s k (accept (lineEffect st p en rep outs))) ≡ lineOf (commit (s .connection) (lineEffect st p en rep outs))
-      → Good (setupOf (s .connection)) s k (lineEffect st p en rep outs)
+      → s .connection .over ≡ false → reportedOf k rep ≡ 0 → outs ≡ meantBy (setupOf (s .connection)) (accountOf s 0) k (ok rep)
+      → (Fitting k → ReadAs (roleOf (s .connection .stage)) (outBy s k (accept (lineEffect st p en rep outs)) .wrote) outs)
+      → Every (mayGo (setupOf (s .connection)) (accountOf s 0) (outBy s k (accept (lineEffect st p en rep outs)))) outs
+      → endTold k (ok rep) ≡ endedAs en → Good (setupOf (s .connection)) s k (lineEffect st p en rep outs)
   unfolding fold
-  line-good k st p en rep outs ht hq hr hf stages none line =
+  line-good k st p en rep outs ht hq hr hf stages none line live concerns means reads allowed ended =
       record {
         inside = omega arith;
         last = o .last;
@@ -149,8 +162,24 @@ module _ (s : State) (o : Ok (setupOf (s .connection)) s) where
         lasts =
             λ hr _ _. ap (λ (q : List ℕ). isReady (look (farBy st) (at (s .connection) 0) (slot 0 q) .sends)) hq
             ∙ ap (λ (v : Seen). isReady (v .sends)) (stage-look st stages 0 (omega arith) (slot 0 (s .queue))) ∙ hr;
+        fated = sym (ap (λ (es : List Event). fold (fateAfter (isUnsent (holds s 0 .sends))) (fateOf (at (s .connection) 0 .outcome)) es) unsaid);
+        ends-so = ended;
+        end-alone = λ cause z. (refl, unsaid);
+        unmoved = λ _. none 0;
+        untold = λ z. absurd (true-false z ht);
+        live = live;
+        concerns = concerns;
+        means = means;
+        reads = reads;
+        allowed = allowed;
+        legal =
+            subst (λ (es : List Event). AllLegal (roleOf (s .connection .stage)) (ownOf (setupOf (s .connection))) (farStart (s .connection)) (drop 4 (outBy s k (accept (lineEffect st p en rep outs)) .wrote)) (holds s 0) es)
+            (sym (none 0)) tt;
       }
     where
+      unsaid : reported 0 k rep ≡ []
+      unsaid = append-first (reported 0 k rep) _ (none 0)
+
       silent-line : dataWritten (setupOf (s .connection)) (outBy s k (accept (lineEffect st p en rep outs))) ≡ []
       silent-line = no-data (readMessage (roleOf (s .connection .stage)) _) (λ m. append-empty (reported m k rep) _ (none m))
 
@@ -167,29 +196,43 @@ module _ (s : State) (o : Ok (setupOf (s .connection)) s) where
   fresh-not-up stage.Started e = refl
   fresh-not-up (stage.Up r far) e = absurd (false≢true e)
 
+  fresh-ungreeted : (st : Stage) → isFresh st ≡ true → ungreeted (greetingOf st) ≡ true
+  fresh-ungreeted (stage.Fresh r) e = refl
+  fresh-ungreeted stage.Started e = e
+  fresh-ungreeted (stage.Up r far) e = e
+
   pub start-good : (room : List ℕ) → Takes (Good (setupOf (s .connection)) s (start room)) (startRule (s .connection) (length room))
-  unfolding startRule
-  start-good room _ _ _ server fresh =
+  unfolding startRule Every
+  start-good room _ live _ server fresh =
       line-good (start room) stage.Started (s .connection .ping) goes-on done (opening (s .connection .own) ∷ []) refl refl
       (client-is (roleOf (s .connection .stage)) server) (omega arith) (inr (fresh-not-up (s .connection .stage) (not-false _ fresh)))
-      (λ m. header-no-message (roleOf (s .connection .stage)) [] (s .connection .own) m) refl
+      (λ m. header-no-message (roleOf (s .connection .stage)) [] (s .connection .own) m) refl live refl refl
+      (λ _. opening-read-back (roleOf (s .connection .stage)) (s .connection .own) [] [] (o .header) (nothing-read-back (roleOf (s .connection .stage)) []))
+      (and-both (and-both (ap not live) (fresh-ungreeted (s .connection .stage) (not-false _ fresh))) (ap isClient (sym (client-is (roleOf (s .connection .stage)) server))), tt) refl
 
   pub ping-good : (cookie : ℕ) (room : List ℕ)
       → Takes (Good (setupOf (s .connection)) s (log.ping cookie room)) (pingRule (s .connection) cookie (length room))
-  unfolding pingRule
-  ping-good cookie room _ _ _ _ _ =
+  unfolding pingRule Every
+  ping-good cookie room _ live up _ _ =
       line-good (log.ping cookie room) (s .connection .stage) (ping.Outstanding cookie) goes-on done (sent (msg.Ping cookie) ∷ []) refl refl refl (o .far) (inl refl)
-      (λ m. ping-no-event (roleOf (s .connection .stage)) cookie m) refl
+      (λ m. ping-no-event (roleOf (s .connection .stage)) cookie m) refl live refl refl
+      (λ fits. sent-read-back (roleOf (s .connection .stage)) (msg.Ping cookie) []
+      (record { shift = omega arith; session = omega arith; number = fits; sender = refl; flags = refl; body = omega arith }))
+      (and-both (ap not live) (greeted-is (s .connection .stage) ∙ not-false (exchanged (s .connection .stage)) up), tt) refl
 
   pub shutdown-good : (room : List ℕ) → Takes (Good (setupOf (s .connection)) s (shutdown room)) (shutdownRule (s .connection) (length room))
-  unfolding shutdownRule
-  shutdown-good room _ _ _ _ client =
+  unfolding shutdownRule Every
+  shutdown-good room _ live up _ client =
+      let server = server-is (roleOf (s .connection .stage)) client in
+      let sendable : Sendable (roleOf (s .connection .stage)) (msg.Shutdown 0) [] =
+      record { shift = omega arith; session = omega arith; number = omega arith; sender = server; flags = refl; body = omega arith } in
       line-good (shutdown room) (s .connection .stage) (s .connection .ping) (ends own-shutdown) done (sent (msg.Shutdown 0) ∷ []) refl refl refl (o .far) (inl refl)
-      (λ m. whole-no-event (roleOf (s .connection .stage)) [] (msg.Shutdown 0) m
-      (record { shift = omega arith; session = omega arith; number = omega arith; sender = server-is (roleOf (s .connection .stage)) client; flags = refl; body = omega arith }) refl) refl
+      (λ m. whole-no-event (roleOf (s .connection .stage)) [] (msg.Shutdown 0) m sendable refl) refl live refl refl
+      (λ _. sent-read-back (roleOf (s .connection .stage)) (msg.Shutdown 0) [] sendable)
+      (and-both (ap not live) (and-both (greeted-is (s .connection .stage) ∙ not-false (exchanged (s .connection .stage)) up) server), tt) refl
 
   pub lost-good : Takes (Good (setupOf (s .connection)) s lost) (lostRule (s .connection))
-  unfolding lostRule
-  lost-good _ _ =
+  unfolding lostRule Every
+  lost-good _ live =
       line-good lost (s .connection .stage) (s .connection .ping) (ends line-lost) done [] refl refl refl (o .far) (inl refl)
-      (λ m. nothing-read (roleOf (s .connection .stage)) [] m) refl
+      (λ m. nothing-read (roleOf (s .connection .stage)) [] m) refl live refl refl (λ _. nothing-read-back (roleOf (s .connection .stage)) []) tt refl

@@ -1,6 +1,6 @@
 -- Put and turn, where they are taken, keep what is observed and touch one slot of the queue: from their lemmas about one session.
 use mathlib.Core.Path.{_≡_, refl, sym, _∙_, subst}
-use mathlib.Core.Bool.{true, false, not}
+use mathlib.Core.Bool.{true, false, not, false≢true}
 use mathlib.Core.List.{List, [], _∷_}
 use Prim.Native.Nat.{ℕ, _+_, _-_, _≤_, _<_}
 use native.Mathlib.Omega.{arith}
@@ -19,17 +19,20 @@ use Rattle.protocol.specs.Ask.{putAsk, turnAsk, ready}
 use Rattle.protocol.specs.Connection.{at, roleOf, exchanged, farStart, ownStart}
 use Rattle.protocol.specs.Judge.{done, served, with-session}
 use Rattle.protocol.specs.Call.{putRule, turnRule, nextReady}
-use Rattle.protocol.specs.Observed.{puts}
-use Rattle.protocol.proofs.Plans.{Takes, takes-then, takes-map}
-use Rattle.protocol.proofs.Views.{Formed, ready-look}
+use Rattle.protocol.specs.Observed.{puts, dueData}
+use Rattle.protocol.specs.Plan as plan
+use Rattle.protocol.proofs.Plans.{Takes, takes-then, takes-map, takes-both}
+use Rattle.protocol.proofs.Views.{Formed, look, ready-look}
 use Rattle.protocol.proofs.Sound.{Sound}
 use Rattle.protocol.proofs.Slots.{with-length, slot-same, slot-other, put-length, turn-length}
 use Rattle.protocol.proofs.Asks.{put-sound}
-use Rattle.protocol.proofs.Turns.{turn-sound}
+use Rattle.protocol.proofs.Fates.{turn-fate}
+use Rattle.protocol.proofs.Turns.{turn-sound, turn-sends}
 use Rattle.history.specs.Log.{put, turn, State}
-use Rattle.history.proofs.Good.{Ok, Good, ForSession, session-good, setupOf, readyAt}
+use Rattle.history.proofs.Good.{Ok, Good, ForSession, setupOf, holds, readyAt}
+use Rattle.history.proofs.Sessions.{session-good}
 use Rattle.history.proofs.Written.{only-own, only-other}
-use Rattle.history.proofs.Steps.{formed-up, own-range, far-range}
+use Rattle.history.proofs.Steps.{formed-up, own-range, far-range, Fates, one-fate, no-fate-told}
 
 module _ (s : State) (o : Ok (setupOf (s .connection)) s) where
   full : (q : ℕ) → not (eqb q queueSize) ≡ false → q ≡ queueSize
@@ -37,7 +40,7 @@ module _ (s : State) (o : Ok (setupOf (s .connection)) s) where
 
   pub put-good : (n : ℕ) (bytes : List ℕ) → Takes (Good (setupOf (s .connection)) s (put n bytes)) (putRule (s .connection) n (length bytes) (length (s .queue)))
   unfolding putRule putAsk
-  put-good n bytes _ _ up queue num side room =
+  put-good n bytes _ live up queue num side room =
       let hn = leb-false 128 n num in
       let hu = not-false (exchanged (s .connection .stage)) up in
       let hq = full (length (s .queue)) queue in
@@ -65,14 +68,28 @@ module _ (s : State) (o : Ok (setupOf (s .connection)) s) where
         frame = λ m _ d. slot-other n (putSlot (x .waiting) bytes sl) (s .queue) hn hq size m (λ e. d (sym e));
         long = with-length n (putSlot (x .waiting) bytes sl) (s .queue) hn hq size ∙ sym hq;
         line = refl;
+        untold = λ z. absurd (false≢true z);
+        fated = one-fate s n (puts bytes) (plan.take t) refl;
+        goes-on = refl;
+        live = live;
+        concerns = refl;
+        sends = refl;
+        quiet = refl;
+        heard = λ payload. (tt, tt);
       })
 
   pub turn-good : (room : List ℕ) → Takes (Good (setupOf (s .connection)) s (turn room)) (turnRule (s .connection) (length (s .queue)) (length room))
   unfolding turnRule
-  turn-good room _ _ up _ queue =
+  turn-good room _ live up _ queue =
       takes-then (Good (setupOf (s .connection)) s (turn room)) (with-session (s .connection) n n (served n)) (turnAsk (ownStart (s .connection)) (farStart (s .connection)) x)
-      (takes-map (λ t snd. session-good (setupOf (s .connection)) s (turn room) n n (served n) [] true t o (taken t snd)) (turnAsk (ownStart (s .connection)) (farStart (s .connection)) x)
-      (turn-sound (roleOf (s .connection .stage)) (ownStart (s .connection)) (farStart (s .connection)) x sl f (own-range s o) (far-range s o) (o .fits n hn)))
+      (takes-map (λ t z. session-good (setupOf (s .connection)) s (turn room) n n (served n) [] true t o (taken t (z .0) (z .1 .0) (z .1 .1))) (turnAsk (ownStart (s .connection)) (farStart (s .connection)) x)
+      (takes-both
+      (λ t. Sound (roleOf (s .connection .stage)) (ownStart (s .connection)) (farStart (s .connection)) x sl [] sl (turnSlot (x .waiting) (x .waiting - t .session .waiting) sl) true t)
+      (λ t. (t .sent ≡ dueData (look (farStart (s .connection)) x sl .sends) ∷ []) × Fates s n [] t) (turnAsk (ownStart (s .connection)) (farStart (s .connection)) x)
+      (turn-sound (roleOf (s .connection .stage)) (ownStart (s .connection)) (farStart (s .connection)) x sl f (own-range s o) (far-range s o) (o .fits n hn))
+      (takes-both (λ t. t .sent ≡ dueData (look (farStart (s .connection)) x sl .sends) ∷ []) (Fates s n []) (turnAsk (ownStart (s .connection)) (farStart (s .connection)) x)
+      (turn-sends (ownStart (s .connection)) (farStart (s .connection)) x sl (o .fits n hn))
+      (no-fate-told s n (turnAsk (ownStart (s .connection)) (farStart (s .connection)) x) (turn-fate (ownStart (s .connection)) (farStart (s .connection)) x)))))
     where
       n : ℕ
       n = nextReady (s .connection)
@@ -97,8 +114,9 @@ module _ (s : State) (o : Ok (setupOf (s .connection)) s) where
       taken : (t : Taken) → Sound (roleOf (s .connection .stage)) (ownStart (s .connection)) (farStart (s .connection)) (at (s .connection) (nextReady (s .connection))) (slot (nextReady (s .connection)) (s .queue)) []
           (slot (nextReady (s .connection)) (s .queue))
           (turnSlot (at (s .connection) (nextReady (s .connection)) .waiting) (at (s .connection) (nextReady (s .connection)) .waiting - t .session .waiting) (slot (nextReady (s .connection)) (s .queue))) true t
+          → t .sent ≡ dueData (holds s (nextReady (s .connection)) .sends) ∷ [] → Fates s (nextReady (s .connection)) [] t
           → ForSession (setupOf (s .connection)) s (turn room) (nextReady (s .connection)) (nextReady (s .connection)) (served (nextReady (s .connection))) [] true t
-      taken t snd =
+      taken t snd sends fate =
           let hq = full (length (s .queue)) queue in
           let size = turn-length (x .waiting) (x .waiting - t .session .waiting) sl (f .waiting) in
           let same = slot-same n (turnSlot (x .waiting) (x .waiting - t .session .waiting) sl) (s .queue) hn hq size in
@@ -114,4 +132,12 @@ module _ (s : State) (o : Ok (setupOf (s .connection)) s) where
             frame = λ m _ d. slot-other n (turnSlot (x .waiting) (x .waiting - t .session .waiting) sl) (s .queue) hn hq size m (λ e. d (sym e));
             long = with-length n (turnSlot (x .waiting) (x .waiting - t .session .waiting) sl) (s .queue) hn hq size ∙ sym hq;
             line = refl;
+            untold = λ _. refl;
+            fated = fate;
+            goes-on = refl;
+            live = live;
+            concerns = refl;
+            sends = sends;
+            quiet = refl;
+            heard = λ payload. tt;
           }

@@ -1,60 +1,71 @@
 -- A receive, where it takes something, keeps what is observed: from the lemma about each message and one session.
 use mathlib.Core.Path.{_≡_, refl, sym, ap, _∙_, subst}
 use mathlib.Core.Logic.{inl, inr}
-use mathlib.Core.Bool.{true, false}
-use mathlib.Core.List.{List, [], _∷_}
+use mathlib.Core.Bool.{Bool, true, false, not, false≢true}
+use mathlib.Core.List.{List, [], _∷_, _++_, map}
 use Prim.Native.Nat.{ℕ, _<_}
 use native.Mathlib.Omega.{arith}
-use lib.ListN.{length}
+use lib.ListN.{length, set}
+use borrow.Author.Tests.{eq-eqb}
+use Rattle.laws.specs.Pick.{pick}
 use Rattle.laws.specs.Result.{Result, ok, refused, violation}
+use Rattle.laws.specs.Runs.{Every}
+use Rattle.laws.proofs.Tests.{and-both}
+use Rattle.ration.specs.declared.Ration.{Ration}
 use Rattle.wire.specs.declared.Role.{Role}
 use Rattle.wire.specs.declared.Role.the-variants as role
 use Rattle.wire.specs.declared.Message.{Message}
 use Rattle.wire.specs.declared.Message.the-variants as msg
-use Rattle.wire.specs.Message.{readMessage, secondByte}
+use Rattle.wire.specs.Message.{isServer, readMessage, secondByte, maySend, kindOfMessage, flagsAllowed, dataFlags}
 use Rattle.wire.specs.Connection.{readConnectionHeader}
 use Rattle.wire.proofs.Bounds.{Sent, message-sent, header-number}
+use Rattle.protocol.specs.declared.Session.{Session}
 use Rattle.protocol.specs.declared.Stage.{Stage}
 use Rattle.protocol.specs.declared.Stage.the-variants as stage
+use Rattle.protocol.specs.declared.Ping.{Ping}
 use Rattle.protocol.specs.declared.Ping.the-variants as ping
 use Rattle.protocol.specs.Queue.{slot}
-use Rattle.protocol.specs.Plan.{Plan, stop, check, take, settle}
-use Rattle.protocol.specs.Message.{SessionMessage, Scope, whole, of-session, scope}
+use Rattle.protocol.specs.Plan.{Plan, settle}
+use Rattle.protocol.specs.Message.{SessionMessage, Scope, whole, of-session, scope, numbered}
 use Rattle.protocol.specs.Receipt.{Taken, receipt}
 use Rattle.protocol.specs.Connection.{shutdown-received, error-received, line-lost, at, roleOf, exchanged, farStart, ownStart}
-use Rattle.protocol.specs.Judge.{header, message, sent, goes-on, ends, Decision, refuse, violate, accept, with-session, errorAfter, breach, judgeWhole, judgeScope, judge}
-use Rattle.protocol.specs.Call.{otherEnd, answering, headerTaken, messageTaken, reading, receiveGate, receiveRule}
+use Rattle.protocol.specs.Judge.{header, message, Out, opening, sent, Ending, goes-on, ends, Decision, refuse, violate, accept, with-session, continued, errorAfter, breach, judgeWhole, judgeScope, judge}
+use Rattle.protocol.specs.Call.{otherEnd, unstarted, answering, headerTaken, messageTaken, reading, receiveGate, receiveRule}
 use Rattle.protocol.specs.Result.{bytesOfAll}
-use Rattle.protocol.specs.Observed.{received}
-use Rattle.protocol.proofs.Plans.{Takes, takes-map}
+use Rattle.protocol.specs.Observed.{Event, received, repliesTo, mayArrive, wrongNumber}
+use Rattle.protocol.proofs.Plans as plans
+use Rattle.protocol.proofs.Plans.{Takes, takes-map, takes-both, stops-all, exact-true}
+use Rattle.protocol.proofs.Views.{greetingOf, greeted-is, endsOf, Formed}
 use Rattle.protocol.proofs.Sound.{Sound}
-use Rattle.protocol.proofs.Receipts.{receipt-sound}
-use Rattle.history.specs.Log.{Call, receive, State}
-use Rattle.history.specs.Account.{Line, lineByMessage, inScope, writtenMessage}
-use Rattle.history.proofs.Good.{Ok, Good, ForSession, session-good, setupOf, lineOf}
-use Rattle.history.proofs.Written.{nothing-read, only-own, only-other}
-use Rattle.history.proofs.Steps.{formed-up, own-range, far-range}
+use Rattle.protocol.proofs.Receipts.{Possible, receipt-sound}
+use Rattle.protocol.proofs.Sends.{Sends, receipt-sends}
+use Rattle.protocol.proofs.Exact.{receipt-exact}
+use Rattle.protocol.proofs.Fates.{receipt-fate}
+use Rattle.protocol.specs.Asked.{isUnsent}
+use Rattle.protocol.specs.Fate.{not-ended}
+use Rattle.history.specs.Log.{Call, receive, State, outBy}
+use Rattle.history.specs.Account.{Line, lineByMessage, inScope, numberIn, writtenMessage}
+use Rattle.history.specs.Fates.{endedByMessage}
+use Rattle.history.specs.Meant.{ungreeted, answeredIn, answerOfAll, ReadAs, mayGo}
+use Rattle.history.proofs.Good.{Ok, Good, endedAs, ForSession, setupOf, lineOf, holds, accountOf}
+use Rattle.history.proofs.Sessions.{session-good}
+use Rattle.history.proofs.Written.{Sendable, sent-read-back, opening-read-back, nothing-read-back, nothing-read, only-own, only-other}
+use Rattle.history.proofs.Steps.{formed-up, own-range, far-range, Fates, one-fate}
 use Rattle.history.proofs.Lines.{header-no-message, whole-no-event, line-good}
 
 -- a decision that takes something keeps what is observed, and a violation is answered with Error and counts as a lost line
 abbrev pub GoodBy : State → Call → Decision → Type 0
 GoodBy s k (refuse n) = Unit {0}
-GoodBy s k (violate b) = (b .reply ≡ errorAfter (s .connection .stage) (s .connection .own)) × (b .cause ≡ line-lost)
+GoodBy s k (violate b) =
+    (b .reply ≡ errorAfter (s .connection .stage) (s .connection .own)) × (b .cause ≡ line-lost) × (s .connection .over ≡ false) × (unstarted (s .connection .stage) ≡ false)
 GoodBy s k (accept e) = Good (setupOf (s .connection)) s k e
 
 pub settled : {A : Type 0} (s : State) (k : Call) (f : A → Decision) (p : Plan A) → Takes (λ a. GoodBy s k (f a)) p → GoodBy s k (settle refuse f p)
-unfolding settle
-settled s k f (stop n) h = tt
-settled s k f (check true n p) h = tt
-settled s k f (check false n p) h = settled s k f p (h refl)
-settled s k f (take a) h = h
+settled s k f p h = plans.settled (GoodBy s k) refuse f p (stops-all (λ n. tt) p) h
 
-judged : {A : Type 0} (s : State) (k : Call) (f : A → Decision) (p : Plan A) → Takes (λ a. GoodBy s k (f a)) p → GoodBy s k (settle (breach (s .connection)) f p)
-unfolding settle
-judged s k f (stop n) h = (refl, refl)
-judged s k f (check true n p) h = (refl, refl)
-judged s k f (check false n p) h = judged s k f p (h refl)
-judged s k f (take a) h = h
+judged : {A : Type 0} (s : State) (k : Call) (f : A → Decision) (p : Plan A) → s .connection .over ≡ false → unstarted (s .connection .stage) ≡ false → Takes (λ a. GoodBy s k (f a)) p
+    → GoodBy s k (settle (breach (s .connection)) f p)
+judged s k f p live begun h = plans.settled (GoodBy s k) (breach (s .connection)) f p (stops-all (λ n. (refl, refl, live, begun)) p) h
 
 -- ---- which session a message is of
 
@@ -83,96 +94,224 @@ scope-line l (msg.Close j) i sm e = refl
 scope-line l (msg.Acknowledgment j) i sm e = refl
 scope-line l (msg.Data o c f a j n) i sm e = refl
 
-module _ (s : State) (o : Ok (setupOf (s .connection)) s) (input room : List ℕ) where
+-- an open Data comes to a server only, a close flag and a Close to a client only
+pub possible : (r : Role) (m : Message) (i : ℕ) (x : SessionMessage) → scope m ≡ of-session i x → Sent (otherEnd r) m → Possible r x
+possible r m i x e f = go r m e (f .sender) (f .flags)
+  where
+    inner : {j : ℕ} {y : SessionMessage} → of-session j y ≡ of-session i x → y ≡ x
+    inner z = cc
+
+    none : {A : Type 0} → whole ≡ of-session i x → A
+    none e = absurd (let z : _≡_ {A = ℕ} 0 1 = cc in omega arith)
+
+    not-closing : (b c g a : Bool) → dataFlags role.Client b c g a ≡ true → c ≡ false
+    not-closing true true g a f = absurd (false≢true f)
+    not-closing false true g a f = absurd (false≢true f)
+    not-closing b false g a f = refl
+
+    go : (r : Role) (m : Message) → scope m ≡ of-session i x → maySend (otherEnd r) (kindOfMessage m) ≡ true → flagsAllowed (otherEnd r) m ≡ true → Possible r x
+    go r (msg.NoOperation n) e s f = none e
+    go r (msg.Shutdown n) e s f = none e
+    go r (msg.Ping n) e s f = none e
+    go r (msg.PingAck n) e s f = none e
+    go r (msg.Error n) e s f = none e
+    go role.Client (msg.IncrementRation t j n) e s f = subst (Possible role.Client) (inner e) refl
+    go role.Server (msg.IncrementRation t j n) e s f = subst (Possible role.Server) (inner e) refl
+    go role.Client (msg.Abort p j n) e s f = subst (Possible role.Client) (inner e) refl
+    go role.Server (msg.Abort p j n) e s f = subst (Possible role.Server) (inner e) refl
+    go role.Client (msg.Close j) e s f = subst (Possible role.Client) (inner e) refl
+    go role.Server (msg.Close j) e s f = absurd (false≢true s)
+    go role.Client (msg.Acknowledgment j) e s f = subst (Possible role.Client) (inner e) refl
+    go role.Server (msg.Acknowledgment j) e s f = subst (Possible role.Server) (inner e) refl
+    go role.Client (msg.Data true c g a j n) e s f = absurd (false≢true f)
+    go role.Client (msg.Data false c g a j n) e s f = subst (Possible role.Client) (inner e) refl
+    go role.Server (msg.Data b c g a j n) e s f = subst (Possible role.Server) (inner e) (not-closing b c g a f)
+
+-- nor does it end it
+scope-ends : (m : Message) (i : ℕ) (sm : SessionMessage) → scope m ≡ of-session i sm → endedByMessage m ≡ not-ended
+scope-ends (msg.NoOperation n) i sm e = refl
+scope-ends (msg.Shutdown n) i sm e = absurd (let z : _≡_ {A = ℕ} 0 1 = cc in omega arith)
+scope-ends (msg.Ping n) i sm e = refl
+scope-ends (msg.PingAck n) i sm e = refl
+scope-ends (msg.Error n) i sm e = absurd (let z : _≡_ {A = ℕ} 0 1 = cc in omega arith)
+scope-ends (msg.IncrementRation t j n) i sm e = refl
+scope-ends (msg.Abort p j n) i sm e = refl
+scope-ends (msg.Close j) i sm e = refl
+scope-ends (msg.Acknowledgment j) i sm e = refl
+scope-ends (msg.Data o c f a j n) i sm e = refl
+
+-- nor does it mean anything for the connection as a whole
+scope-quiet : (m : Message) (i : ℕ) (sm : SessionMessage) → scope m ≡ of-session i sm → answerOfAll m ≡ []
+scope-quiet (msg.NoOperation n) i sm e = refl
+scope-quiet (msg.Shutdown n) i sm e = refl
+scope-quiet (msg.Ping n) i sm e = absurd (let z : _≡_ {A = ℕ} 0 1 = cc in omega arith)
+scope-quiet (msg.PingAck n) i sm e = refl
+scope-quiet (msg.Error n) i sm e = refl
+scope-quiet (msg.IncrementRation t j n) i sm e = refl
+scope-quiet (msg.Abort p j n) i sm e = refl
+scope-quiet (msg.Close j) i sm e = refl
+scope-quiet (msg.Acknowledgment j) i sm e = refl
+scope-quiet (msg.Data o c f a j n) i sm e = refl
+
+module _ (s : State) (o : Ok (setupOf (s .connection)) s) (input room : List ℕ) (live : s .connection .over ≡ false) (begun : unstarted (s .connection .stage) ≡ false) where
   -- ---- a connection header
 
   answers : (r : Role) (n : ℕ) → writtenMessage n (readMessage r (bytesOfAll [] (answering r (s .connection .own)))) ≡ []
   answers role.Client n = nothing-read role.Client [] n
   answers role.Server n = header-no-message role.Server [] (s .connection .own) n
 
-  header-good : (r : Role) → roleOf (s .connection .stage) ≡ r → exchanged (s .connection .stage) ≡ false → (h : Result ℕ) → readConnectionHeader input ≡ h
-      → GoodBy s (receive input room) (headerTaken (s .connection) r h)
-  header-good r er up (ok far) q =
+  answers-mean : (r : Role) → answering r (s .connection .own) ≡ pick (isServer r) (opening (s .connection .own) ∷ []) [] ++ []
+  unfolding pick
+  answers-mean role.Client = refl
+  answers-mean role.Server = refl
+
+  answers-read : (r : Role) → ReadAs r (bytesOfAll [] (answering r (s .connection .own))) (answering r (s .connection .own))
+  answers-read role.Client = nothing-read-back role.Client []
+  answers-read role.Server = opening-read-back role.Server (s .connection .own) [] [] (o .header) (nothing-read-back role.Server [])
+
+  answers-go : (r : Role) (far : ℕ) → roleOf (s .connection .stage) ≡ r → (isServer r ≡ true → ungreeted (greetingOf (s .connection .stage)) ≡ true)
+      → Every (mayGo (setupOf (s .connection)) (accountOf s 0) (outBy s (receive input room) (headerTaken (s .connection) r (ok far)))) (answering r (s .connection .own))
+  unfolding Every
+  answers-go role.Client far er h = tt
+  answers-go role.Server far er h = (and-both (and-both (ap not live) (h refl)) (ap isServer er), tt)
+
+  header-good : (r : Role) → roleOf (s .connection .stage) ≡ r → exchanged (s .connection .stage) ≡ false → (isServer r ≡ true → ungreeted (greetingOf (s .connection .stage)) ≡ true)
+      → (h : Result ℕ) → readConnectionHeader input ≡ h → GoodBy s (receive input room) (headerTaken (s .connection) r h)
+  header-good r er up greets (ok far) q =
       line-good s o (receive input room) (stage.Up r far) (s .connection .ping) goes-on (header far) (answering r (s .connection .own)) refl refl (sym er)
       (header-number input far q) (inr up)
       (λ n. subst (λ (z : Role). writtenMessage n (readMessage z (bytesOfAll [] (answering r (s .connection .own)))) ≡ []) (sym er) (answers r n))
-      (ap (λ (z : Role). record { over = s .connection .over; stage = stage.Up z far; ping = s .connection .ping }) er)
-  header-good r er up (refused n) q = tt
-  header-good r er up (violation n) q = (refl, refl)
+      refl live refl
+      (answers-mean r ∙ sym (ap (λ (z : Role). pick (isServer z) (opening (s .connection .own) ∷ []) [] ++ []) er))
+      (λ _. subst (λ (z : Role). ReadAs z (bytesOfAll [] (answering r (s .connection .own))) (answering r (s .connection .own))) (sym er) (answers-read r))
+      (answers-go r far er greets) refl
+  header-good r er up greets (refused n) q = tt
+  header-good r er up greets (violation n) q = (refl, refl, live, begun)
 
   -- ---- a message
 
+  -- a message of the connection as a whole that gets no answer
+  quiet-whole : (m : Message) (p : Ping) (en : Ending) → scope m ≡ whole → answerOfAll m ≡ []
+      → lineByMessage (lineOf (s .connection)) m ≡ lineOf (continued en (record { sessions = set (s .connection .sessions) 0 (at (s .connection) 0); stage = s .connection .stage; over = s .connection .over; own = s .connection .own; last = s .connection .last; ping = p }))
+      → endedByMessage m ≡ endedAs en → Good (setupOf (s .connection)) s (receive input room)
+      (record { number = 0; session = at (s .connection) 0; stage = s .connection .stage; last = s .connection .last; ping = p; ending = en; report = message m false; outs = [] })
+  unfolding Every
+  quiet-whole m p en z a line ended =
+      line-good s o (receive input room) (s .connection .stage) p en (message m false) [] refl refl refl (o .far) (inl refl)
+      (λ i. ap (λ (l : List Event). l ++ writtenMessage i (readMessage (roleOf (s .connection .stage)) (bytesOfAll [] []))) (ap (inScope i received) z) ∙ nothing-read (roleOf (s .connection .stage)) [] i)
+      line live (ap numberIn z)
+      (sym (ap (λ (l : List Out). l ++ map (λ x. sent (numbered (numberIn (scope m)) x)) (answeredIn (roleOf (s .connection .stage)) (holds s 0) (scope m))) a
+      ∙ ap (λ (y : Scope). map (λ x. sent (numbered (numberIn (scope m)) x)) (answeredIn (roleOf (s .connection .stage)) (holds s 0) y)) z))
+      (λ _. nothing-read-back (roleOf (s .connection .stage)) []) tt ended
+
   whole-good : (m : Message) → exchanged (s .connection .stage) ≡ true → Sent (otherEnd (roleOf (s .connection .stage))) m
       → Takes (λ e. GoodBy s (receive input room) (accept e)) (judgeWhole (s .connection) m)
-  whole-good (msg.NoOperation n) up w =
-      line-good s o (receive input room) (s .connection .stage) (s .connection .ping) goes-on (message (msg.NoOperation n) false) [] refl refl refl (o .far) (inl refl)
-      (λ i. nothing-read (roleOf (s .connection .stage)) [] i) refl
-  whole-good (msg.Shutdown n) up w =
-      line-good s o (receive input room) (s .connection .stage) (s .connection .ping) (ends shutdown-received) (message (msg.Shutdown n) false) [] refl refl refl (o .far) (inl refl)
-      (λ i. nothing-read (roleOf (s .connection .stage)) [] i) refl
+  unfolding Every
+  whole-good (msg.NoOperation n) up w = quiet-whole (msg.NoOperation n) (s .connection .ping) goes-on refl refl refl refl
+  whole-good (msg.Shutdown n) up w = quiet-whole (msg.Shutdown n) (s .connection .ping) (ends shutdown-received) refl refl refl refl
   whole-good (msg.Ping k) up w =
+      let sendable : Sendable (roleOf (s .connection .stage)) (msg.PingAck k) [] =
+      record { shift = omega arith; session = omega arith; number = w .number; sender = refl; flags = refl; body = omega arith } in
       line-good s o (receive input room) (s .connection .stage) (s .connection .ping) goes-on (message (msg.Ping k) false) (sent (msg.PingAck k) ∷ []) refl refl refl (o .far) (inl refl)
-      (λ i. whole-no-event (roleOf (s .connection .stage)) [] (msg.PingAck k) i
-      (record { shift = omega arith; session = omega arith; number = w .number; sender = refl; flags = refl; body = omega arith }) refl) refl
-  whole-good (msg.PingAck k) up w = λ _.
-      line-good s o (receive input room) (s .connection .stage) ping.None goes-on (message (msg.PingAck k) false) [] refl refl refl (o .far) (inl refl)
-      (λ i. nothing-read (roleOf (s .connection .stage)) [] i) refl
-  whole-good (msg.Error n) up w =
-      line-good s o (receive input room) (s .connection .stage) (s .connection .ping) (ends error-received) (message (msg.Error n) false) [] refl refl refl (o .far) (inl refl)
-      (λ i. nothing-read (roleOf (s .connection .stage)) [] i) refl
+      (λ i. whole-no-event (roleOf (s .connection .stage)) [] (msg.PingAck k) i sendable refl) refl live refl refl
+      (λ _. sent-read-back (roleOf (s .connection .stage)) (msg.PingAck k) [] sendable) (and-both (ap not live) (and-both (greeted-is (s .connection .stage) ∙ up) (eq-eqb k k refl)), tt) refl
+  whole-good (msg.PingAck k) up w = λ _. quiet-whole (msg.PingAck k) ping.None goes-on refl refl refl refl
+  whole-good (msg.Error n) up w = quiet-whole (msg.Error n) (s .connection .ping) (ends error-received) refl refl refl refl
   whole-good (msg.IncrementRation t i n) up w = tt
   whole-good (msg.Abort p i n) up w = tt
   whole-good (msg.Close i) up w = tt
   whole-good (msg.Acknowledgment i) up w = tt
   whole-good (msg.Data b c f a i n) up w = tt
 
+  -- what is known where a session's message is taken
+  abbrev Taking : ℕ → SessionMessage → Taken → Type 0
+  Taking i sm t =
+      Sound (roleOf (s .connection .stage)) (ownStart (s .connection)) (farStart (s .connection)) (at (s .connection) i) (slot i (s .queue)) (received sm ∷ []) [] (slot i (s .queue)) false t
+      × (Sends (repliesTo (roleOf (s .connection .stage)) (holds s i .standing) sm) t
+      × ((mayArrive (roleOf (s .connection .stage)) (ownStart (s .connection)) (holds s i) sm ≡ true) × Fates s i (received sm ∷ []) t))
+
   session-message : (m : Message) (i : ℕ) (sm : SessionMessage) → scope m ≡ of-session i sm → exchanged (s .connection .stage) ≡ true → i < 128
-      → (t : Taken) → Sound (roleOf (s .connection .stage)) (ownStart (s .connection)) (farStart (s .connection)) (at (s .connection) i) (slot i (s .queue)) (received sm ∷ []) [] (slot i (s .queue)) false t
-      → ForSession (setupOf (s .connection)) s (receive input room) i (s .connection .last) (message m (t .late)) (received sm ∷ []) false t
-  session-message m i sm e up hi t snd =
+      → (t : Taken) → Taking i sm t → ForSession (setupOf (s .connection)) s (receive input room) i (s .connection .last) (message m (t .late)) (received sm ∷ []) false t
+  session-message m i sm e up hi t z =
       record {
         mark = refl;
         turns = refl;
         inside = hi;
         last-inside = o .last;
         up = up;
-        sound = snd;
+        sound = z .0;
         told = ap (inScope i received) e ∙ only-own i (received sm);
         not-told = λ n d. ap (inScope n received) e ∙ only-other n i (received sm) d;
         frame = λ _ _ _. refl;
         long = refl;
         line = scope-line (lineOf (s .connection)) m i sm e;
+        untold = λ z. absurd (false≢true z);
+        fated = z .1 .1 .1;
+        goes-on = scope-ends m i sm e;
+        live = live;
+        concerns = ap numberIn e;
+        sends = z .1 .0 ∙ sym (ap (answeredIn (roleOf (s .connection .stage)) (holds s i)) e);
+        quiet = scope-quiet m i sm e;
+        heard = λ payload. (z .1 .1 .0, tt);
       }
 
   judge-good : (m : Message) (z : Scope) → scope m ≡ z → exchanged (s .connection .stage) ≡ true → Sent (otherEnd (roleOf (s .connection .stage))) m
       → GoodBy s (receive input room) (judgeScope (s .connection) m z)
-  judge-good m whole e up w = judged s (receive input room) accept (judgeWhole (s .connection) m) (whole-good m up w)
+  judge-good m whole e up w = judged s (receive input room) accept (judgeWhole (s .connection) m) live begun (whole-good m up w)
   judge-good m (of-session i sm) e up w =
-      let hi : i < 128 = subst (λ (n : ℕ). n < 128) (scope-number m i sm e) (w .session) in
-      judged s (receive input room) (λ t. accept (with-session (s .connection) i (s .connection .last) (message m (t .late)) t))
-      (receipt (roleOf (s .connection .stage)) (ownStart (s .connection)) (farStart (s .connection)) (at (s .connection) i) sm)
+      judged s (receive input room) (λ t. accept (with-session (s .connection) i (s .connection .last) (message m (t .late)) t)) rule live begun
       (takes-map
-      (λ t snd. session-good (setupOf (s .connection)) s (receive input room) i (s .connection .last) (message m (t .late)) (received sm ∷ []) false t o
-      (session-message m i sm e up hi t snd))
-      (receipt (roleOf (s .connection .stage)) (ownStart (s .connection)) (farStart (s .connection)) (at (s .connection) i) sm)
-      (receipt-sound (roleOf (s .connection .stage)) (ownStart (s .connection)) (farStart (s .connection)) (at (s .connection) i) (slot i (s .queue))
-      (formed-up s o up i hi) (own-range s o) (far-range s o) sm))
+      (λ t z. session-good (setupOf (s .connection)) s (receive input room) i (s .connection .last) (message m (t .late)) (received sm ∷ []) false t o
+      (session-message m i sm e up hi t z)) rule
+      (takes-both (Sound r own far x sl (received sm ∷ []) [] sl false) (λ t. Sends (repliesTo r (holds s i .standing) sm) t × ((mayArrive r own (holds s i) sm ≡ true) × Fates s i (received sm ∷ []) t)) rule
+      (receipt-sound r own far x sl f (own-range s o) (far-range s o) sm maybe)
+      (takes-both (Sends (repliesTo r (holds s i .standing) sm)) (λ t. (mayArrive r own (holds s i) sm ≡ true) × Fates s i (received sm ∷ []) t) rule (receipt-sends x r own far sm)
+      (takes-both (λ t. mayArrive r own (holds s i) sm ≡ true) (Fates s i (received sm ∷ [])) rule
+      (exact-true (mayArrive r own (holds s i) sm) (wrongNumber r (endsOf (x .sides)) sm) rule (receipt-exact r own far x sl sm (f .place) maybe))
+      (one-fate s i (received sm) rule (receipt-fate x (isUnsent (holds s i .sends)) r own far sm))))))
+    where
+      r : Role
+      r = roleOf (s .connection .stage)
+
+      own : Ration
+      own = ownStart (s .connection)
+
+      far : Ration
+      far = farStart (s .connection)
+
+      x : Session
+      x = at (s .connection) i
+
+      sl : List ℕ
+      sl = slot i (s .queue)
+
+      rule : Plan Taken
+      rule = receipt (roleOf (s .connection .stage)) (ownStart (s .connection)) (farStart (s .connection)) (at (s .connection) i) sm
+
+      hi : i < 128
+      hi = subst (λ (n : ℕ). n < 128) (scope-number m i sm e) (w .session)
+
+      f : Formed (roleOf (s .connection .stage)) true (at (s .connection) i)
+      f = formed-up s o up i hi
+
+      maybe : Possible (roleOf (s .connection .stage)) sm
+      maybe = possible (roleOf (s .connection .stage)) m i sm e w
 
   message-good : (h : Result Message) → readMessage (otherEnd (roleOf (s .connection .stage))) input ≡ h → exchanged (s .connection .stage) ≡ true
       → GoodBy s (receive input room) (messageTaken (s .connection) h)
   unfolding judge
   message-good (ok m) q up = judge-good m (scope m) refl up (message-sent (otherEnd (roleOf (s .connection .stage))) input m q)
   message-good (refused n) q up = tt
-  message-good (violation n) q up = (refl, refl)
+  message-good (violation n) q up = (refl, refl, live, begun)
 
   reading-good : (st : Stage) → s .connection .stage ≡ st → GoodBy s (receive input room) (reading (s .connection) input st)
-  reading-good (stage.Fresh r) e = header-good r (ap roleOf e) (ap exchanged e) (readConnectionHeader input) refl
-  reading-good stage.Started e = header-good role.Client (ap roleOf e) (ap exchanged e) (readConnectionHeader input) refl
+  reading-good (stage.Fresh r) e = header-good r (ap roleOf e) (ap exchanged e) (λ _. ap (λ (z : Stage). ungreeted (greetingOf z)) e) (readConnectionHeader input) refl
+  reading-good stage.Started e = header-good role.Client (ap roleOf e) (ap exchanged e) (λ z. absurd (false≢true z)) (readConnectionHeader input) refl
   reading-good (stage.Up r far) e =
       message-good (readMessage (otherEnd r) input) (ap (λ (z : Stage). readMessage (otherEnd (roleOf z)) input) e) (ap exchanged e)
 
-  pub receive-good : GoodBy s (receive input room) (receiveRule (s .connection) input (length room))
-  unfolding receiveRule
-  receive-good =
-      settled s (receive input room) (λ go. reading (s .connection) input (s .connection .stage)) (receiveGate (s .connection) (length room))
-      (λ _ _ _ _. reading-good (s .connection .stage) refl)
+pub receive-good : (s : State) → Ok (setupOf (s .connection)) s → (input room : List ℕ) → GoodBy s (receive input room) (receiveRule (s .connection) input (length room))
+unfolding receiveRule
+receive-good s o input room =
+    settled s (receive input room) (λ go. reading (s .connection) input (s .connection .stage)) (receiveGate (s .connection) (length room))
+    (λ _ live begun _. reading-good s o input room live begun (s .connection .stage) refl)

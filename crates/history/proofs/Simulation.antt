@@ -20,11 +20,11 @@ use Rattle.protocol.specs.Session.{blank}
 use Rattle.protocol.specs.Connection.{Cause, shutdown-received, error-received, own-shutdown, line-lost, at, roleOf, exchanged, farStart, allFormed, wellFormed, ending, ended, fresh}
 use Rattle.protocol.specs.Judge.{Ending, goes-on, ends, Effect, Breach, Decision, refuse, violate, accept, continued}
 use Rattle.protocol.specs.Observed.{observe}
-use Rattle.protocol.proofs.Views.{look, Formed, formed-is}
+use Rattle.protocol.proofs.Views.{start-told, look, Formed, formed-is}
 use Rattle.history.specs.Log.{Call, start, open-session, put, finish, turn, grant, abort, close, shutdown, lost, receive, State, decide, queueAfter, nextBy, outBy, next, out, made}
 use Rattle.history.specs.Log as log
 use Rattle.history.specs.Account.{Account, blankAccount, accountAfter, observed, events}
-use Rattle.history.proofs.Good.{Ok, Good, setupOf, lineOf, holds, ownOf, farBy}
+use Rattle.history.proofs.Good.{Ok, Good, setupOf, holds, accountOf, ownOf, farBy}
 use Rattle.history.proofs.Steps.{open-good, finish-good, grant-good, abort-good, close-good}
 use Rattle.history.proofs.Moves.{put-good, turn-good}
 use Rattle.history.proofs.Lines.{start-good, ping-good, shutdown-good, lost-good, stage-formed, stage-look}
@@ -90,10 +90,10 @@ ending-look own-shutdown far x sl = refl
 ending-look line-lost far x sl = refl
 
 ending-formed : (cause : Cause) {r : Role} {up : Bool} {x : Session} → Formed r up x → Formed r up (ending cause x)
-ending-formed shutdown-received f = record { outbound = f .outbound; inbound = f .inbound; waiting = f .waiting; none = f .none; finish = f .finish; place = f .place }
-ending-formed error-received f = record { outbound = f .outbound; inbound = f .inbound; waiting = f .waiting; none = f .none; finish = f .finish; place = f .place }
+ending-formed shutdown-received f = record { outbound = f .outbound; inbound = f .inbound; waiting = f .waiting; none = f .none; finish = f .finish; place = f .place; pair = f .pair }
+ending-formed error-received f = record { outbound = f .outbound; inbound = f .inbound; waiting = f .waiting; none = f .none; finish = f .finish; place = f .place; pair = f .pair }
 ending-formed own-shutdown f = f
-ending-formed line-lost f = record { outbound = f .outbound; inbound = f .inbound; waiting = f .waiting; none = f .none; finish = f .finish; place = f .place }
+ending-formed line-lost f = record { outbound = f .outbound; inbound = f .inbound; waiting = f .waiting; none = f .none; finish = f .finish; place = f .place; pair = f .pair }
 
 ending-waiting : (cause : Cause) (x : Session) → ending cause x .waiting ≡ x .waiting
 ending-waiting shutdown-received x = refl
@@ -101,14 +101,11 @@ ending-waiting error-received x = refl
 ending-waiting own-shutdown x = refl
 ending-waiting line-lost x = refl
 
-ended-at : (cause : Cause) (c : Connection) (n : ℕ) → at (ended cause c) n ≡ ending cause (at c n)
+pub ended-at : (cause : Cause) (c : Connection) (n : ℕ) → at (ended cause c) n ≡ ending cause (at c n)
 ended-at cause c n =
     ap (getD (map (ending cause) (c .sessions)) n) (sym (ending-blank cause)) ∙ List·getD-map (ending cause) (c .sessions) n blank
 
 -- ---- a state and its account
-
-abbrev pub accountOf : State → ℕ → Account
-accountOf s n = record { line = lineOf (s .connection); seen = holds s n }
 
 pub account-path : {a b : Account} → a .line ≡ b .line → a .seen ≡ b .seen → a ≡ b
 account-path p q i = record { line = p i; seen = q i }
@@ -151,7 +148,7 @@ module _ (s : State) (o : Ok (setupOf (s .connection)) s) (k : Call) (e : Effect
   pub own-at : at (base (s .connection) e) (e .number) ≡ e .session
   own-at = getD-set-same (s .connection .sessions) (e .number) (e .session) blank (let h = g .inside in let z = o .size in omega arith)
 
-  other-at : (n : ℕ) → (e .number ≡ n → ⊥) → at (base (s .connection) e) n ≡ at (s .connection) n
+  pub other-at : (n : ℕ) → (e .number ≡ n → ⊥) → at (base (s .connection) e) n ≡ at (s .connection) n
   other-at n d = getD-set-other (s .connection .sessions) (e .number) n (e .session) blank (λ z. d (sym z))
 
   -- by cases: the number that the call concerns, or another
@@ -221,7 +218,10 @@ module _ (s : State) (o : Ok (setupOf (s .connection)) s) (k : Call) where
       account-path refl
       (ap (λ (q : List ℕ). look (farStart (s .connection)) (at (ended (b .cause) (s .connection)) n) (slot n q)) (queue-violated (s .connection) (s .queue) k b)
       ∙ ended-holds s (b .cause) n)
-  by-account (accept e) g n h = account-path (sym (g .line)) (accepted-holds s o k e g (e .ending) n ∙ taken-holds s o k e g n h)
+  by-account (accept e) g n h =
+      account-path (sym (g .line))
+      (accepted-holds s o k e g (e .ending) n ∙ taken-holds s o k e g n h
+      ∙ sym (ap (λ (far : Ration). fold (observe (ownOf (setupOf (s .connection))) far) (holds s n) (events (roleOf (s .connection .stage)) n (outBy s k (accept e)))) (start-told (s .connection .stage))))
 
 -- ---- one call
 
@@ -262,9 +262,9 @@ module _ (setup : Setup) where
   -- ---- from a connection just made
 
   blank-formed : (r : Role) → Formed r false blank
-  blank-formed r = record { outbound = refl; inbound = refl; waiting = omega arith; none = refl; finish = refl; place = refl }
+  blank-formed r = record { outbound = refl; inbound = refl; waiting = omega arith; none = refl; finish = refl; place = refl; pair = refl }
 
-  fresh-at : (n : ℕ) → n < 128 → at (fresh setup) n ≡ blank
+  pub fresh-at : (n : ℕ) → n < 128 → at (fresh setup) n ≡ blank
   fresh-at n h = getD-replicate 128 n blank blank h
 
   pub made-ok : setup .header < 65_536 → (q : List ℕ) → Ok setup (made setup q)
@@ -280,7 +280,7 @@ module _ (setup : Setup) where
         fits = λ n h. subst (λ (x : Session). x .waiting ≤ length (slot n q)) (sym (fresh-at n h)) (omega arith);
       }
 
-  made-account : (q : List ℕ) (n : ℕ) → n < 128 → accountOf (made setup q) n ≡ blankAccount setup
+  pub made-account : (q : List ℕ) (n : ℕ) → n < 128 → accountOf (made setup q) n ≡ blankAccount setup
   made-account q n h = account-path refl (ap (λ (x : Session). look (farStart (fresh setup)) x (slot n q)) (fresh-at n h))
 
   -- what the log tells is what the state holds

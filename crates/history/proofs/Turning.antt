@@ -1,5 +1,5 @@
 -- What a turn does, told from the log: the first ready number, its data message and nothing else; or 9 exactly where none is ready.
-use mathlib.Core.Path.{_≡_, refl, sym, ap, _∙_}
+use mathlib.Core.Path.{_≡_, refl, sym, ap, _∙_, subst}
 use mathlib.Core.Bool.{Bool, true, false, not, false≢true}
 use mathlib.Core.List.{List, [], _∷_, _++_, append-nil, map}
 use Prim.Native.Nat.{ℕ, _≤_, _<_}
@@ -13,7 +13,6 @@ use Rattle.laws.proofs.Circle.{nearest-lt}
 use Rattle.laws.proofs.Runs.{Move, still, serves}
 use Rattle.laws.proofs.Tests.{true-false}
 use Rattle.ration.specs.declared.Ration.{Ration}
-use Rattle.ration.specs.declared.Ration.the-variants as ration
 use Rattle.wire.specs.Message as wire
 use Rattle.protocol.specs.declared.Sides.{Sides}
 use Rattle.protocol.specs.declared.Sides.the-variants as sides
@@ -25,15 +24,15 @@ use Rattle.protocol.specs.Queue.{slot}
 use Rattle.protocol.specs.Plan.{Plan, check, settle}
 use Rattle.protocol.specs.Message.{SessionMessage, numbered}
 use Rattle.protocol.specs.Receipt.{Taken}
-use Rattle.protocol.specs.Ask.{ready, smaller}
+use Rattle.protocol.specs.Ask.{ready}
 use Rattle.protocol.specs.Connection.{at, exchanged, farStart, ownStart, wellFormed}
 use Rattle.protocol.specs.Judge.{served, sent, Effect, Decision, refuse, accept, with-session}
 use Rattle.protocol.specs.Call.{nextReady, serving, turnRule}
 use Rattle.protocol.specs.Result.{bytesOfAll, decided}
-use Rattle.protocol.specs.Observed.{Sending, silent, sending, isReady, dueData}
+use Rattle.protocol.specs.Observed.{Sending, silent, sending, isReady, dueLength, dueData}
 use Rattle.protocol.proofs.Plans.{stops, passes}
-use Rattle.protocol.proofs.Views.{look, sendsOf}
-use Rattle.protocol.proofs.Turns.{turn-sends, turn-stops, turn-goes}
+use Rattle.protocol.proofs.Views.{look, sendsOf, due-length}
+use Rattle.protocol.proofs.Turns.{smaller-waiting, turn-sends, turn-stops, turn-goes}
 use Rattle.history.specs.Log.{Call, State, next, out}
 use Rattle.history.specs.Claims
 use Rattle.history.specs.Claims.{dataWritten, lastOf, waitingBytes}
@@ -127,17 +126,16 @@ module _ (setup : Setup) (s : State) (o : Ok setup s) (room : List ℕ) where
 -- ---- the bytes of a turn
 
 -- what is due is no more than what waits
-smaller-le : (w : ℕ) (r : Ration) → smaller w r ≤ w
-smaller-le w (ration.Finite n) = omega arith
-smaller-le w ration.Endless = omega arith
+due-le : (w : ℕ) (r : Ration) → dueLength w r ≤ w
+due-le w r = subst (λ (n : ℕ). n ≤ w) (sym (due-length w r)) (smaller-waiting w r)
 
 pub due-bytes : (k w : ℕ) (sl : List ℕ) (v : Sending) → isReady v ≡ true → waitingBytes v ≡ take w sl → w ≤ length sl
     → take (wire.bodyLength (numbered k (dueData v))) sl ≡ take (wire.bodyLength (numbered k (dueData v))) (waitingBytes v)
 due-bytes k w sl silent r e h = absurd (false≢true r)
 due-bytes k w sl (sending u b q f) r e h =
-    let n = smaller (length b) q in
+    let n = dueLength (length b) q in
     let small : length b ≡ w = ap length e ∙ length-take-le w sl h in
-    let le : smaller (length b) q ≤ w = let z = smaller-le (length b) q in omega arith in
+    let le : dueLength (length b) q ≤ w = let z = due-le (length b) q in omega arith in
     sym (ap (take n) e ∙ take-take n w sl le)
 
 pub waiting-look : (far : Ration) (x : Session) (sl : List ℕ) → isReady (look far x sl .sends) ≡ true → waitingBytes (look far x sl .sends) ≡ take (x .waiting) sl

@@ -1,12 +1,12 @@
 -- What a call writes is read back by the reader as the message meant: from the round trip of the wire format.
 use mathlib.Core.Path.{_≡_, refl, sym, ap, _∙_}
-use mathlib.Core.Bool.{true}
-use mathlib.Core.List.{List, [], _∷_}
-use Prim.Native.Nat.{ℕ, _≤_, _<_}
+use mathlib.Core.Bool.{true, false}
+use mathlib.Core.List.{List, [], _∷_, append-nil}
+use Prim.Native.Nat.{ℕ, _+_, _≤_, _<_}
 use native.Mathlib.Nat.{mul-one}
 use native.Mathlib.Omega.{arith}
-use lib.ListN.{length, take}
-use lib.Seq.{length-take-le}
+use lib.ListN.{length, take, drop}
+use lib.Seq.{length-take-le, drop-at}
 use borrow.Author.Tests.{lt-ltb, eq-eqb, ne-eqb}
 use Rattle.laws.specs.Pick.{pick}
 use Rattle.laws.specs.Result.{ok, refused}
@@ -16,12 +16,15 @@ use Rattle.wire.specs.declared.Role.{Role}
 use Rattle.wire.specs.declared.Message.{Message}
 use Rattle.wire.specs.Message.{maySend, flagsAllowed, kindOfMessage, effectiveIncrement, shiftOf, secondByte, numberOf, bodyLength, writable, readMessage}
 use Rattle.wire.proofs.Laws.{read-written}
+use Rattle.wire.proofs.ConnectionLaws.{header-read-written}
 use Rattle.protocol.specs.Message.{SessionMessage, data-of, increment-of, abort-of, close-of, acknowledgment-of, of-session, scope, numbered}
-use Rattle.protocol.specs.Judge.{sent}
-use Rattle.protocol.specs.Result.{bytesOfAll}
+use Rattle.protocol.specs.Judge.{Out, opening, sent}
+use Rattle.protocol.specs.Result.{bytesOf, bytesOfAll}
 use Rattle.protocol.specs.Observed.{Event, wrote, fromRole}
 use Rattle.protocol.proofs.Sound.{Fits, carried}
+use Rattle.protocol.proofs.Reports.{used-is}
 use Rattle.history.specs.Account.{only, inScope, writtenMessage}
+use Rattle.history.specs.Meant.{ReadAs}
 
 -- ---- a message without a body, or with one
 
@@ -45,13 +48,36 @@ sent-read r m payload w =
     (eq-eqb (bodyLength m) (length (take (bodyLength m) payload)) (sym size)) in
     read-written r m body (w .number) may []
 
+-- what follows the header is the payload, and behind it nothing is left
+pub sent-payload : (m : Message) (payload : List ℕ) → drop 4 (bytesOfAll payload (sent m ∷ [])) ≡ take (bodyLength m) payload
+unfolding bytesOfAll
+sent-payload m payload = append-nil (take (bodyLength m) payload)
+
+pub sent-length : (m : Message) (payload : List ℕ) → bodyLength m ≤ length payload → drop (4 + bodyLength m) (bytesOfAll payload (sent m ∷ [])) ≡ []
+unfolding bytesOfAll
+sent-length m payload h = drop-at (bytesOf payload (sent m)) [] (4 + bodyLength m) (used-is m false payload h)
+
+pub sent-read-back : (r : Role) (m : Message) (payload : List ℕ) → Sendable r m payload → ReadAs r (bytesOfAll payload (sent m ∷ [])) (sent m ∷ [])
+unfolding ReadAs
+sent-read-back r m payload w = (sent-read r m payload w, sent-length m payload (w .body))
+
+-- a connection header, and what follows it
+pub opening-read-back : (r : Role) (n : ℕ) (payload : List ℕ) (outs : List Out) → n < 65_536 → ReadAs r (bytesOfAll payload outs) outs
+    → ReadAs r (bytesOfAll payload (opening n ∷ outs)) (opening n ∷ outs)
+unfolding ReadAs bytesOfAll
+opening-read-back r n payload outs h k = (header-read-written n (bytesOfAll payload outs) h, k)
+
+pub nothing-read-back : (r : Role) (payload : List ℕ) → ReadAs r (bytesOfAll payload []) []
+unfolding ReadAs bytesOfAll
+nothing-read-back r payload = refl
+
 -- ---- messages of a session
 
 unshifted : (n : ℕ) → effectiveIncrement 0 n ≡ n
 unfolding effectiveIncrement
 unshifted n = mul-one n
 
-scope-numbered : (i : ℕ) (m : SessionMessage) → scope (numbered i m) ≡ of-session i m
+pub scope-numbered : (i : ℕ) (m : SessionMessage) → scope (numbered i m) ≡ of-session i m
 scope-numbered i (data-of n begins close eof ack) = refl
 scope-numbered i (increment-of n) = ap (λ (k : ℕ). of-session i (increment-of k)) (unshifted n)
 scope-numbered i (abort-of partial) = refl
@@ -73,6 +99,10 @@ sendable r i acknowledgment-of payload h f fits l =
 pub numbered-read : (r : Role) (i : ℕ) (m : SessionMessage) (payload : List ℕ) → i < 128 → fromRole r m ≡ true → Fits m → carried m ≤ length payload
     → readMessage r (bytesOfAll payload (sent (numbered i m) ∷ [])) ≡ ok (numbered i m)
 numbered-read r i m payload h f fits l = sent-read r (numbered i m) payload (sendable r i m payload h f fits l)
+
+pub numbered-read-back : (r : Role) (i : ℕ) (m : SessionMessage) (payload : List ℕ) → i < 128 → fromRole r m ≡ true → Fits m → carried m ≤ length payload
+    → ReadAs r (bytesOfAll payload (sent (numbered i m) ∷ [])) (sent (numbered i m) ∷ [])
+numbered-read-back r i m payload h f fits l = sent-read-back r (numbered i m) payload (sendable r i m payload h f fits l)
 
 -- ---- as events
 

@@ -13,37 +13,32 @@ use Rattle.wire.specs.declared.Role.{Role}
 use Rattle.wire.specs.declared.Message.{Message}
 use Rattle.wire.specs.declared.Message.the-variants as msg
 use Rattle.wire.specs.Message.{readMessage}
-use Rattle.protocol.specs.declared.Stage.{Stage}
-use Rattle.protocol.specs.declared.Stage.the-variants as stage
-use Rattle.protocol.specs.declared.Ping.{Ping}
-use Rattle.protocol.specs.declared.Ping.the-variants as ping
 use Rattle.protocol.specs.declared.Setup.{Setup}
 use Rattle.protocol.specs.Message.{SessionMessage, Scope, whole, of-session, scope}
-use Rattle.protocol.specs.Connection.{roleOf, farNumber}
 use Rattle.protocol.specs.Judge.{Report, done, served, header, message}
-use Rattle.protocol.specs.Observed.{Event, opens, finishes, aborts, puts, received, wrote, silent, unused, Seen, observe}
+use Rattle.protocol.specs.Observed.{Greeting, no-header, own-header, both-headers, startTold, Pinging, no-ping, pinged, Event, opens, finishes, aborts, puts, received, wrote, silent, unused, Seen, observe}
 use Rattle.history.specs.Log.{Call, start, open-session, put, finish, turn, grant, abort, close, shutdown, lost, receive, Entry}
 use Rattle.history.specs.Log as log
 
--- ---- of the connection: whether it is over, how far the headers are exchanged, the ping that is not answered
+-- ---- of the connection: whether it is over, the headers so far, the ping that is not answered
 
 pub record Line : Type 0 where
   pub over : Bool
-  pub stage : Stage
-  pub ping : Ping
+  pub greeting : Greeting
+  pub pinging : Pinging
 
 abbrev pub withOver : Line → Line
-withOver l = record { over = true; stage = l .stage; ping = l .ping }
+withOver l = record { over = true; greeting = l .greeting; pinging = l .pinging }
 
-abbrev pub withStage : Stage → Line → Line
-withStage s l = record { over = l .over; stage = s; ping = l .ping }
+abbrev pub withGreeting : Greeting → Line → Line
+withGreeting g l = record { over = l .over; greeting = g; pinging = l .pinging }
 
-abbrev pub withPing : Ping → Line → Line
-withPing p l = record { over = l .over; stage = l .stage; ping = p }
+abbrev pub withPinging : Pinging → Line → Line
+withPinging p l = record { over = l .over; greeting = l .greeting; pinging = p }
 
 -- a lost line and our shutdown make it over
 abbrev pub lineByCall : Line → Call → Line
-lineByCall l (start room) = withStage stage.Started l
+lineByCall l (start room) = withGreeting own-header l
 lineByCall l (open-session n) = l
 lineByCall l (put n bytes) = l
 lineByCall l (finish n) = l
@@ -51,7 +46,7 @@ lineByCall l (turn room) = l
 lineByCall l (grant n amount room) = l
 lineByCall l (abort n partial room) = l
 lineByCall l (close n room) = l
-lineByCall l (log.ping cookie room) = withPing (ping.Outstanding cookie) l
+lineByCall l (log.ping cookie room) = withPinging (pinged cookie) l
 lineByCall l (shutdown room) = withOver l
 lineByCall l lost = withOver l
 lineByCall l (receive input room) = l
@@ -61,7 +56,7 @@ abbrev pub lineByMessage : Line → Message → Line
 lineByMessage l (msg.NoOperation n) = l
 lineByMessage l (msg.Shutdown n) = withOver l
 lineByMessage l (msg.Ping k) = l
-lineByMessage l (msg.PingAck k) = withPing ping.None l
+lineByMessage l (msg.PingAck k) = withPinging no-ping l
 lineByMessage l (msg.Error n) = withOver l
 lineByMessage l (msg.IncrementRation s i n) = l
 lineByMessage l (msg.Abort p i n) = l
@@ -72,7 +67,7 @@ lineByMessage l (msg.Data o c e a i n) = l
 abbrev pub lineByReport : Line → Call → Report → Line
 lineByReport l k done = lineByCall l k
 lineByReport l k (served n) = l
-lineByReport l k (header far) = withStage (stage.Up (roleOf (l .stage)) far) l
+lineByReport l k (header far) = withGreeting (both-headers far) l
 lineByReport l k (message m late) = lineByMessage l m
 
 -- a refused call changes nothing, except that a refusal from 20 up makes the connection over
@@ -121,6 +116,12 @@ writtenMessage n (ok m) = inScope n wrote (scope m)
 writtenMessage n (refused k) = []
 writtenMessage n (violation k) = []
 
+-- what a call that is taken tells by its report
+abbrev pub toldBy : ℕ → Call → Result Report → List Event
+toldBy n k (ok p) = reported n k p
+toldBy n k (refused j) = []
+toldBy n k (violation j) = []
+
 abbrev pub eventsByAnswer : Role → ℕ → Call → List ℕ → Result Report → List Event
 eventsByAnswer r n k bytes (ok p) = reported n k p ++ writtenMessage n (readMessage r bytes)
 eventsByAnswer r n k bytes (refused j) = []
@@ -128,6 +129,37 @@ eventsByAnswer r n k bytes (violation j) = []
 
 abbrev pub events : Role → ℕ → Entry → List Event
 events r n e = eventsByAnswer r n (e .call) (e .wrote) (e .answer)
+
+-- ---- the number that an entry concerns, 0 where it concerns the connection as a whole
+
+abbrev pub askedOf : Call → ℕ
+askedOf (start room) = 0
+askedOf (open-session n) = n
+askedOf (put n bytes) = n
+askedOf (finish n) = n
+askedOf (turn room) = 0
+askedOf (grant n amount room) = n
+askedOf (abort n partial room) = n
+askedOf (close n room) = n
+askedOf (log.ping cookie room) = 0
+askedOf (shutdown room) = 0
+askedOf lost = 0
+askedOf (receive input room) = 0
+
+abbrev pub numberIn : Scope → ℕ
+numberIn whole = 0
+numberIn (of-session i m) = i
+
+abbrev pub reportedOf : Call → Report → ℕ
+reportedOf k done = askedOf k
+reportedOf k (served n) = n
+reportedOf k (header far) = 0
+reportedOf k (message m late) = numberIn (scope m)
+
+abbrev pub concerned : Call → Result Report → ℕ
+concerned k (ok p) = reportedOf k p
+concerned k (refused j) = 0
+concerned k (violation j) = 0
 
 -- ---- all that a log tells of a number
 
@@ -139,12 +171,12 @@ pub record Account : Type 0 where
 abbrev pub blankAccount : Setup → Account
 blankAccount s =
     record {
-      line = record { over = false; stage = stage.Fresh (s .role); ping = ping.None };
+      line = record { over = false; greeting = no-header; pinging = no-ping };
       seen = record { standing = unused; sends = silent; inbound = ration.Finite 0 };
     }
 
 abbrev pub farOf : Line → Ration
-farOf l = fromHeader (farNumber (l .stage))
+farOf l = startTold (l .greeting)
 
 unfoldable pub accountAfter : Setup → ℕ → Account → Entry → Account
 accountAfter s n a e =
@@ -152,6 +184,10 @@ accountAfter s n a e =
       line = lineAfter (a .line) e;
       seen = fold (observe (fromHeader (s .header)) (farOf (a .line))) (a .seen) (events (s .role) n e);
     }
+
+-- what an entry tells before it writes, after all that the log so far tells
+abbrev pub seenBefore : Setup → ℕ → Account → Entry → Seen
+seenBefore s n a e = fold (observe (fromHeader (s .header)) (farOf (a .line))) (a .seen) (toldBy n (e .call) (e .answer))
 
 unfoldable pub observed : Setup → ℕ → List Entry → Account
 observed s n es = fold (accountAfter s n) (blankAccount s) es

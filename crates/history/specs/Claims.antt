@@ -1,5 +1,6 @@
--- What is claimed of every log: of every role, header number, queue and list of calls, refused ones included.
-use Prim.Native.Nat.{ℕ, _≤_, _<_}
+-- What is claimed of every log: of every role, header number, queue and list of calls, refused ones included; and of every
+-- state, what a call that is not taken leaves.
+use Prim.Native.Nat.{ℕ, _+_, _≤_, _<_}
 use mathlib.Core.Path.{_≡_}
 use mathlib.Core.Logic.{_↔_}
 use mathlib.Core.Bool.{Bool, true, false, not, _&&_, _||_}
@@ -9,22 +10,37 @@ use lib.Dec.{eqb}
 use Rattle.laws.specs.Result.{Result, ok, refused, violation}
 use Rattle.laws.specs.Circle.{nearest}
 use Rattle.laws.specs.Runs.{Every, gather, times}
+use Rattle.ration.specs.declared.Ration.{Ration}
 use Rattle.ration.specs.Ration.{fromHeader}
 use Rattle.wire.specs.declared.Message.{Message}
 use Rattle.wire.specs.declared.Message.the-variants as msg
 use Rattle.wire.specs.Message as wire
-use Rattle.wire.specs.Message.{readMessage}
+use Rattle.wire.specs.Message.{bodyLength, readMessage}
+use Rattle.wire.specs.Connection.{connectionHeader, readConnectionHeader}
+use Rattle.protocol.specs.declared.Side.{Side}
+use Rattle.protocol.specs.declared.Side.the-variants as side
+use Rattle.protocol.specs.declared.Session.{Session}
+use Rattle.protocol.specs.declared.Stage.{Stage}
+use Rattle.protocol.specs.declared.Stage.the-variants as stage
+use Rattle.protocol.specs.declared.Connection.{Connection}
 use Rattle.protocol.specs.declared.Setup.{Setup}
 use Rattle.protocol.specs.Slot.{queueSize, turnRoom}
-use Rattle.protocol.specs.declared.Ping.{Ping}
+use Rattle.protocol.specs.Queue.{slot}
 use Rattle.protocol.specs.Message.{numbered, Scope, whole, of-session, scope}
-use Rattle.protocol.specs.Connection.{line-lost, exchanged, ended}
-use Rattle.protocol.specs.Judge.{Report, served, message, errorAfter, matches}
+use Rattle.protocol.specs.Connection.{at}
+use Rattle.protocol.specs.Judge.{Report, done, served, header, message, Out}
 use Rattle.protocol.specs.Call.{otherEnd}
-use Rattle.protocol.specs.Result.{bytesOfAll}
-use Rattle.protocol.specs.Observed.{Sending, silent, sending, isReady, anyLapse, dueData, lateFor, mayArrive}
-use Rattle.history.specs.Log.{Call, start, open-session, put, finish, turn, grant, abort, close, ping, shutdown, lost, receive, State, Entry, decide, gives, next, out}
-use Rattle.history.specs.Account.{lineAfter, events, observed, blankAccount}
+use Rattle.protocol.specs.Result.{over}
+use Rattle.protocol.specs.Observed.{Pinging, greeted, awaits, Sending, silent, sending, isReady, anyLapse, ends, established, dueData, lateFor, mayArrive, wrongNumber}
+use Rattle.protocol.specs.Fate.{fateOf}
+use Rattle.protocol.specs.Totals.{blankLedger, Balanced, Covers}
+use Rattle.history.specs.Log.{Call, start, open-session, put, finish, turn, grant, abort, close, ping, shutdown, lost, receive, roomOf, State, Entry, next, out, run}
+use Rattle.history.specs.Log as log
+use Rattle.history.specs.Account.{Account, lineAfter, events, concerned, askedOf, farOf, observed, blankAccount}
+use Rattle.history.specs.Answers.{localAnswer, isLocal, gateAnswer}
+use Rattle.history.specs.Meant.{headerDue, meantBy, ReadAs, mayGo}
+use Rattle.history.specs.Sums.{summed}
+use Rattle.history.specs.Fates.{fateTold}
 
 -- ---- the words of the third demand
 
@@ -47,11 +63,10 @@ dataNumber (ok (msg.Data o c e a i n)) = i ∷ []
 dataNumber (refused n) = []
 dataNumber (violation n) = []
 
--- the numbers whose data messages an entry wrote
+-- the number whose data message an entry wrote first; reads-back says that nothing stands behind it
 abbrev pub dataWritten : Setup → Entry → List ℕ
 dataWritten s e = dataNumber (readMessage (s .role) (e .wrote))
 
--- a turn is the only call that writes a data message
 abbrev pub isTurn : Call → Bool
 isTurn (start room) = false
 isTurn (open-session n) = false
@@ -114,7 +129,7 @@ pub record Serves (s : Setup) (a : List Entry) (e : Entry) (k : ℕ) : Type 0 wh
 -- no check before the search for a ready number refuses the turn
 pub record MayTurn (s : Setup) (queue : ℕ) (a : List Entry) (room : ℕ) : Type 0 where
   pub not-over : observed s 0 a .line .over ≡ false
-  pub up : exchanged (observed s 0 a .line .stage) ≡ true
+  pub up : greeted (observed s 0 a .line .greeting) ≡ true
   pub roomy : turnRoom ≤ room
   pub whole-queue : queue ≡ queueSize
 
@@ -141,30 +156,83 @@ pub record BoundedWaiting (s : Setup) (queue : ℕ) (log : List Entry) : Type 0 
 
 -- ---- what a call that is not taken leaves, of every state and not only of a history
 
+-- nothing of a session but its outcome
+pub record SameButOutcome (x y : Session) : Type 0 where
+  pub sides : x .sides ≡ y .sides
+  pub outbound : x .outbound ≡ y .outbound
+  pub inbound : x .inbound ≡ y .inbound
+  pub waiting : x .waiting ≡ y .waiting
+  pub finish : x .finish ≡ y .finish
+
+-- a connection is over, and nothing else of it changes but outcomes
+pub record OnlyOver (before after : Connection) : Type 0 where
+  pub over : after .over ≡ true
+  pub stage : after .stage ≡ before .stage
+  pub own : after .own ≡ before .own
+  pub last : after .last ≡ before .last
+  pub ping : after .ping ≡ before .ping
+  pub sessions : (n : ℕ) → SameButOutcome (at after n) (at before n)
+
+-- our header where it was not sent, then Error, whose four bytes are 08 00 00 00
+abbrev pub errorBytes : Stage → ℕ → List ℕ
+errorBytes (stage.Fresh r) own = connectionHeader own ++ (8 ∷ 0 ∷ 0 ∷ 0 ∷ [])
+errorBytes stage.Started own = 8 ∷ 0 ∷ 0 ∷ 0 ∷ []
+errorBytes (stage.Up r far) own = 8 ∷ 0 ∷ 0 ∷ 0 ∷ []
+
+abbrev pub takesInput : Result Report → Bool
+takesInput (ok done) = false
+takesInput (ok (served n)) = false
+takesInput (ok (header far)) = true
+takesInput (ok (message m late)) = true
+takesInput (refused n) = false
+takesInput (violation n) = false
+
 pub record RefusedLeaves (s : State) (k : Call) : Type 0 where
-  -- below 20 nothing changes and nothing is written
-  pub refusal : (n : ℕ) → out s k .answer ≡ refused n → (next s k ≡ s) × (out s k .wrote ≡ [])
+  -- below 20 nothing changes and nothing is written, so that the room stays as lent
+  pub refusal : (n : ℕ) → out s k .answer ≡ refused n
+      → (n < 20) × (next s k ≡ s) × (out s k .wrote ≡ []) × (over (out s k .wrote) (roomOf k) ≡ roomOf k)
   -- from 20 up only over and outcomes change, and Error, or header and Error, is written
   pub violated : (n : ℕ) → out s k .answer ≡ violation n
-      → (next s k .connection ≡ ended line-lost (s .connection)) × (next s k .queue ≡ s .queue)
-      × (out s k .wrote ≡ bytesOfAll [] (errorAfter (s .connection .stage) (s .connection .own)))
-  -- and no input is used
-  pub unused : ((r : Report) → out s k .answer ≡ ok r → ⊥) → gives s k (decide (s .connection) (s .queue) k) .used ≡ 0
+      → (20 ≤ n) × OnlyOver (s .connection) (next s k .connection) × (next s k .queue ≡ s .queue)
+      × (out s k .wrote ≡ errorBytes (s .connection .stage) (s .connection .own))
+  -- no input is used but for a header or a message that is taken
+  pub unused : takesInput (out s k .answer) ≡ false → (out s k .used ≡ 0) × (out s k .start ≡ 0) × (out s k .end ≡ 0)
+  -- only a receive finds a violation
+  pub receives : (n : ℕ) → out s k .answer ≡ violation n → (input room : List ℕ) × (k ≡ receive input room)
+
+-- a call by which the connection is over changes nothing else but outcomes, whatever ends it
+abbrev pub OverLeaves : State → Call → Type 0
+OverLeaves s k =
+    s .connection .over ≡ false → next s k .connection .over ≡ true
+    → OnlyOver (s .connection) (next s k .connection) × (next s k .queue ≡ s .queue)
+
+-- ---- a local call other than turn is taken exactly where 01 lets it be asked, and refused with its number else
+
+-- `queue` is the length of the queue
+abbrev pub AsksExactly : Setup → ℕ → List Entry → Type 0
+AsksExactly s queue log =
+    (a c : List Entry) (e : Entry) → log ≡ a ++ (e ∷ c) → isLocal (e .call) ≡ true
+    → e .answer ≡ localAnswer s queue (observed s (askedOf (e .call)) a) (e .call)
+
+-- before they search or read, turn and receive refuse by their own checks, and nothing else happens to them there
+abbrev pub GatesExactly : Setup → ℕ → List Entry → Type 0
+GatesExactly s queue log =
+    (a c : List Entry) (e : Entry) → log ≡ a ++ (e ∷ c) → e .answer ≡ gateAnswer s queue (observed s 0 a .line) (e .call) (e .answer)
 
 -- ---- a message is taken exactly where 002 lets the far end send it
 
 -- no check before the message refuses a receive
 pub record Listening (s : Setup) (a : List Entry) (room : ℕ) : Type 0 where
   pub not-over : observed s 0 a .line .over ≡ false
-  pub up : exchanged (observed s 0 a .line .stage) ≡ true
+  pub up : greeted (observed s 0 a .line .greeting) ≡ true
   pub roomy : 12 ≤ room
 
 -- a message of the connection as a whole may always arrive, but for a PingAck, which has to match the outstanding cookie
-abbrev pub wholeMayArrive : Ping → Message → Bool
+abbrev pub wholeMayArrive : Pinging → Message → Bool
 wholeMayArrive p (msg.NoOperation n) = true
 wholeMayArrive p (msg.Shutdown n) = true
 wholeMayArrive p (msg.Ping k) = true
-wholeMayArrive p (msg.PingAck k) = matches p k
+wholeMayArrive p (msg.PingAck k) = awaits p k
 wholeMayArrive p (msg.Error n) = true
 wholeMayArrive p (msg.IncrementRation t i n) = false
 wholeMayArrive p (msg.Abort b i n) = false
@@ -174,7 +242,7 @@ wholeMayArrive p (msg.Data o c e b i n) = false
 
 -- an Acknowledgment may arrive wherever its sender has not terminated the session, asked for or not
 abbrev pub mayCome : Setup → List Entry → Message → Scope → Bool
-mayCome s a m whole = wholeMayArrive (observed s 0 a .line .ping) m
+mayCome s a m whole = wholeMayArrive (observed s 0 a .line .pinging) m
 mayCome s a m (of-session i x) = mayArrive (s .role) (fromHeader (s .header)) (observed s i a .seen) x
 
 -- a message is late where it crossed our end of its session
@@ -182,10 +250,122 @@ abbrev pub lateOf : Setup → List Entry → Scope → Bool
 lateOf s a whole = false
 lateOf s a (of-session i x) = lateFor (observed s i a .seen .standing) x
 
+-- the number that a message which may not come is refused with: 28 for a PingAck, else 25, 26 or 27
+abbrev pub wrongFor : Setup → List Entry → Scope → ℕ
+wrongFor s a whole = 28
+wrongFor s a (of-session i x) = wrongNumber (s .role) (observed s i a .seen .standing) x
+
 pub record TakesExactly (s : Setup) (log : List Entry) : Type 0 where
   pub takes : (a c : List Entry) (e : Entry) (input room : List ℕ) (m : Message) → log ≡ a ++ (e ∷ c) → e .call ≡ receive input room
       → Listening s a (length room) → readMessage (otherEnd (s .role)) input ≡ ok m
       → mayCome s a m (scope m) ≡ true → e .answer ≡ ok (message m (lateOf s a (scope m)))
   pub else-violated : (a c : List Entry) (e : Entry) (input room : List ℕ) (m : Message) → log ≡ a ++ (e ∷ c) → e .call ≡ receive input room
       → Listening s a (length room) → readMessage (otherEnd (s .role)) input ≡ ok m
-      → mayCome s a m (scope m) ≡ false → (n : ℕ) × (e .answer ≡ violation n)
+      → mayCome s a m (scope m) ≡ false → e .answer ≡ violation (wrongFor s a (scope m))
+  -- and only there
+  pub only : (a c : List Entry) (e : Entry) (input room : List ℕ) (m : Message) (late : Bool) → log ≡ a ++ (e ∷ c) → e .call ≡ receive input room
+      → e .answer ≡ ok (message m late)
+      → Listening s a (length room) × (mayCome s a m (scope m) ≡ true) × (late ≡ lateOf s a (scope m))
+
+-- ---- what a receive takes is what the reader gives on its input, and as many bytes are used
+
+-- a header is due and no check before it refuses
+pub record Awaiting (s : Setup) (a : List Entry) (room : ℕ) : Type 0 where
+  pub not-over : observed s 0 a .line .over ≡ false
+  pub due : headerDue (s .role) (observed s 0 a .line .greeting) ≡ true
+  pub roomy : 12 ≤ room
+
+abbrev pub headerAnswer : Result ℕ → Result Report
+headerAnswer (ok far) = ok (header far)
+headerAnswer (refused n) = refused n
+headerAnswer (violation n) = violation n
+
+-- a report of what stands at the start of the input, with its bytes and the place of its payload
+abbrev pub Stands : Setup → List ℕ → Entry → Report → Type 0
+Stands s input e done = ⊥
+Stands s input e (served n) = ⊥
+Stands s input e (header far) = (readConnectionHeader input ≡ ok far) × (e .used ≡ 8) × (8 ≤ length input) × (e .start ≡ 0) × (e .end ≡ 0)
+Stands s input e (message m late) =
+    (readMessage (otherEnd (s .role)) input ≡ ok m) × (e .used ≡ 4 + bodyLength m) × (4 + bodyLength m ≤ length input)
+    × (e .start ≡ 4) × (e .end ≡ 4 + bodyLength m)
+
+pub record ReceiveReads (s : Setup) (log : List Entry) : Type 0 where
+  pub taken : (a c : List Entry) (e : Entry) (input room : List ℕ) (r : Report) → log ≡ a ++ (e ∷ c) → e .call ≡ receive input room
+      → e .answer ≡ ok r → Stands s input e r
+  -- a header is answered as it is read, and a message that is not read is refused as the reader refuses it
+  pub headers : (a c : List Entry) (e : Entry) (input room : List ℕ) → log ≡ a ++ (e ∷ c) → e .call ≡ receive input room
+      → Awaiting s a (length room) → e .answer ≡ headerAnswer (readConnectionHeader input)
+  pub short : (a c : List Entry) (e : Entry) (input room : List ℕ) (n : ℕ) → log ≡ a ++ (e ∷ c) → e .call ≡ receive input room
+      → Listening s a (length room) → readMessage (otherEnd (s .role)) input ≡ refused n → e .answer ≡ refused n
+  pub broken : (a c : List Entry) (e : Entry) (input room : List ℕ) (n : ℕ) → log ≡ a ++ (e ∷ c) → e .call ≡ receive input room
+      → Listening s a (length room) → readMessage (otherEnd (s .role)) input ≡ violation n → e .answer ≡ violation n
+
+-- ---- what a call writes is what it means, the other end reads it back, and it may be sent then
+
+-- a Data message is compared by its header and its length; its bytes are those of Serves and of PutStream
+
+-- what the log so far tells of the number that an entry concerns
+abbrev pub accountBefore : Setup → List Entry → Entry → Account
+accountBefore s a e = observed s (concerned (e .call) (e .answer)) a
+
+abbrev pub meant : Setup → List Entry → Entry → List Out
+meant s a e = meantBy s (accountBefore s a e) (e .call) (e .answer)
+
+-- a cookie has the 16 bits of its place in the message
+abbrev pub Fitting : Call → Type 0
+Fitting (start room) = Unit {0}
+Fitting (open-session n) = Unit {0}
+Fitting (put n bytes) = Unit {0}
+Fitting (finish n) = Unit {0}
+Fitting (turn room) = Unit {0}
+Fitting (grant n amount room) = Unit {0}
+Fitting (abort n partial room) = Unit {0}
+Fitting (close n room) = Unit {0}
+Fitting (ping cookie room) = cookie < 65_536
+Fitting (shutdown room) = Unit {0}
+Fitting lost = Unit {0}
+Fitting (receive input room) = Unit {0}
+
+abbrev pub ReadsBack : Setup → List Entry → Type 0
+ReadsBack s log =
+    (a c : List Entry) (e : Entry) → log ≡ a ++ (e ∷ c) → Fitting (e .call) → ReadAs (s .role) (e .wrote) (meant s a e)
+
+abbrev pub SendsAllowed : Setup → List Entry → Type 0
+SendsAllowed s log = (a c : List Entry) (e : Entry) → log ≡ a ++ (e ∷ c) → Every (mayGo s (accountBefore s a e) e) (meant s a e)
+
+-- ---- a ration is its start, plus what was granted, less what was spent, counted since the session began
+
+pub record RationLedger (s : Setup) (queue : List ℕ) (calls : List Call) (n : ℕ) : Type 0 where
+  -- what we may send, while our end is unfinished
+  pub outbound : (t : Side) → observed s n (log.log s queue calls) .seen .standing ≡ ends side.Open t
+      → Balanced (farOf (observed s n (log.log s queue calls) .line)) (summed s n (log.log s queue calls) .totals .sending)
+      (at (run s queue calls .connection) n .outbound)
+  -- what the far end may send, while ours is established and theirs unfinished
+  pub inbound : (o : Side) → established o ≡ true → observed s n (log.log s queue calls) .seen .standing ≡ ends o side.Open
+      → Balanced (fromHeader (s .header)) (summed s n (log.log s queue calls) .totals .receiving) (at (run s queue calls .connection) n .inbound)
+  -- no Data message that is written passes what was granted, nor does one that is taken and not late
+  pub written : (a c : List Entry) (e : Entry) (begins close eof ack : Bool) (size : ℕ) → log.log s queue calls ≡ a ++ (e ∷ c)
+      → readMessage (s .role) (e .wrote) ≡ ok (msg.Data begins close eof ack n size)
+      → Covers (farOf (observed s n a .line)) (summed s n a .totals .sending) size
+  pub begun : (a c : List Entry) (e : Entry) (close eof ack late : Bool) (size : ℕ) → log.log s queue calls ≡ a ++ (e ∷ c)
+      → e .answer ≡ ok (message (msg.Data true close eof ack n size) late) → Covers (fromHeader (s .header)) blankLedger size
+  pub taken : (a c : List Entry) (e : Entry) (close eof ack late : Bool) (size : ℕ) → log.log s queue calls ≡ a ++ (e ∷ c)
+      → e .answer ≡ ok (message (msg.Data false close eof ack n size) late) → lateOf s a (scope (msg.Data false close eof ack n size)) ≡ false
+      → Covers (fromHeader (s .header)) (summed s n a .totals .receiving) size
+
+-- ---- the fate of a session is the one that the log tells
+
+abbrev pub FatesTold : Setup → List ℕ → List Call → ℕ → Type 0
+FatesTold s queue calls n = fateOf (at (run s queue calls .connection) n .outcome) ≡ fateTold s n (log.log s queue calls)
+
+-- ---- the bytes put are the bytes sent: nothing lost, doubled or made up
+
+pub record PutStream (s : Setup) (queue : List ℕ) (calls : List Call) (n : ℕ) : Type 0 where
+  -- of a session that sends, the payloads so far and then what waits in its slot are the bytes put
+  pub kept : (unsent : Bool) (bytes : List ℕ) (r : Ration) (end : Bool) → observed s n (log.log s queue calls) .seen .sends ≡ sending unsent bytes r end
+      → summed s n (log.log s queue calls) .totals .payloads ++ take (at (run s queue calls .connection) n .waiting) (slot n (run s queue calls .queue))
+      ≡ summed s n (log.log s queue calls) .totals .put
+  -- at the Data message with eof its payloads are all the bytes put
+  pub whole : (a c : List Entry) (e : Entry) (begins close ack : Bool) (size : ℕ) → log.log s queue calls ≡ a ++ (e ∷ c)
+      → readMessage (s .role) (e .wrote) ≡ ok (msg.Data begins close true ack n size)
+      → summed s n (a ++ (e ∷ [])) .totals .payloads ≡ summed s n (a ++ (e ∷ [])) .totals .put

@@ -1,4 +1,8 @@
 -- Logs of calls, what they tell, and what is claimed of every one of them.
 pub mod Log
 pub mod Account
+pub mod Meant
+pub mod Sums
+pub mod Fates
+pub mod Answers
 pub mod Claims

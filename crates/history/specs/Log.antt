@@ -72,16 +72,35 @@ queueAfter c q (shutdown room) d = q
 queueAfter c q lost d = q
 queueAfter c q (receive input room) d = q
 
+-- the room that a call is lent
+abbrev pub roomOf : Call → List ℕ
+roomOf (start room) = room
+roomOf (open-session n) = []
+roomOf (put n bytes) = []
+roomOf (finish n) = []
+roomOf (turn room) = room
+roomOf (grant n amount room) = room
+roomOf (abort n partial room) = room
+roomOf (close n room) = room
+roomOf (ping cookie room) = room
+roomOf (shutdown room) = room
+roomOf lost = []
+roomOf (receive input room) = room
+
 -- ---- runs
 
 pub record State : Type 0 where
   pub connection : Connection
   pub queue : List ℕ
 
--- an entry of the log: the call, its answer, the bytes that it wrote
+-- an entry of the log: the call, its answer, how many bytes of its input it used and where in them the payload stands, the bytes
+-- that it wrote
 pub record Entry : Type 0 where
   pub call : Call
   pub answer : Result Report
+  pub used : ℕ
+  pub start : ℕ
+  pub end : ℕ
   pub wrote : List ℕ
 
 abbrev pub gives : State → Call → Decision → Given
@@ -91,7 +110,15 @@ abbrev pub nextBy : State → Call → Decision → State
 nextBy s k d = record { connection = gives s k d .connection; queue = queueAfter (s .connection) (s .queue) k d }
 
 abbrev pub outBy : State → Call → Decision → Entry
-outBy s k d = record { call = k; answer = gives s k d .answer; wrote = writtenBy (payloadOf (s .queue) k d) d }
+outBy s k d =
+    record {
+      call = k;
+      answer = gives s k d .answer;
+      used = gives s k d .used;
+      start = gives s k d .start;
+      end = gives s k d .end;
+      wrote = writtenBy (payloadOf (s .queue) k d) d;
+    }
 
 -- each call gets what the last one left
 unfoldable pub next : State → Call → State

@@ -1,0 +1,320 @@
+-- asks-exactly and gates-exactly: a local call answers by its checks in order, told from the log, and so do turn and receive before
+-- they search or read. From the exactness of each rule about one session.
+use mathlib.Core.Path.{_≡_, refl, sym, ap, _∙_}
+use mathlib.Core.Bool.{Bool, true, false, not, false≢true}
+use mathlib.Core.List.{List, [], _∷_}
+use Prim.Native.Nat.{ℕ, _<_}
+use native.Mathlib.Omega.{arith}
+use lib.ListN.{length}
+use lib.Dec.{eqb, ltb, leb}
+use borrow.Author.Tests.{leb-false}
+use Rattle.laws.specs.Result.{Result, ok}
+use Rattle.laws.proofs.Tests.{not-false}
+use Rattle.wire.specs.Message.{isClient, isServer}
+use Rattle.protocol.specs.declared.Stage.{Stage}
+use Rattle.protocol.specs.declared.Stage.the-variants as stage
+use Rattle.protocol.specs.declared.Ping.{Ping}
+use Rattle.protocol.specs.declared.Ping.the-variants as waiting
+use Rattle.protocol.specs.declared.Setup.{Setup}
+use Rattle.protocol.specs.Slot.{queueSize, turnRoom}
+use Rattle.protocol.specs.Queue.{slot}
+use Rattle.protocol.specs.Plan.{Plan, stop, check, take, settle, andThen}
+use Rattle.protocol.specs.Receipt.{Taken}
+use Rattle.protocol.specs.Ask.{openAsk, putAsk, finishAsk, grantAsk, abortAsk, closeAsk}
+use Rattle.protocol.specs.Connection.{at, roleOf, exchanged, farStart, wellFormed}
+use Rattle.protocol.specs.Judge.{Report, done, Effect, Decision, refuse, accept, with-session}
+use Rattle.protocol.specs.Call.{isFresh, isOutstanding, nextReady, serving, unstarted, reading, receiveGate, turnRule, receiveRule, startRule, openRule, putRule, finishRule, grantRule, abortRule, closeRule, pingRule, shutdownRule, lostRule}
+use Rattle.protocol.specs.Observed.{greeted}
+use Rattle.protocol.proofs.Plans.{passes, Exactly, exact-takes, exact-stops, takes-all}
+use Rattle.protocol.proofs.Views.{greetingOf, greeted-is, pingingOf}
+use Rattle.protocol.proofs.Asking.{open-exact, put-exact, finish-exact, grant-exact, abort-exact, close-exact}
+use Rattle.history.specs.Log.{Call, start, open-session, put, finish, turn, grant, abort, close, shutdown, lost, receive, State, Entry, decide, outBy, out, made}
+use Rattle.history.specs.Log as log
+use Rattle.laws.specs.Runs.{fold}
+use Rattle.history.specs.Account.{Line, lineAfter, Account, askedOf, accountAfter, blankAccount, observed}
+use Rattle.history.specs.Meant.{ungreeted}
+use Rattle.history.specs.Answers.{refusing, takenIf, ifUp, ifRoom, ifNumber, isPinging, localAnswer, isLocal, isUnstarted, gateAnswer}
+use Rattle.history.specs.Claims.{AsksExactly, GatesExactly}
+use Rattle.history.proofs.Good.{Ok, setupOf, lineOf, accountOf}
+use Rattle.history.proofs.Steps.{formed-up}
+use Rattle.history.proofs.Simulation.{observed-is, run-made, made-ok, own-ok, same-setup, ok-formed}
+use Rattle.history.proofs.Entries.{of-entries}
+use Rattle.history.proofs.Bounded.{run-long}
+
+-- ---- what a rule answers
+
+-- a check that does not hold is passed; what follows it may use that
+guarded : (b : Bool) (n : ℕ) (p q : Result Report) → (b ≡ false → p ≡ q) → refusing b n p ≡ refusing b n q
+guarded true n p q f = refl
+guarded false n p q f = f refl
+
+settle-then : {A B : Type 0} (f : A → B) (p : Plan A) (bad : ℕ → Decision) (good : B → Decision) → settle bad good (andThen f p) ≡ settle bad (λ a. good (f a)) p
+unfolding settle
+settle-then f (stop n) bad good = refl
+settle-then f (check true n p) bad good = refl
+settle-then f (check false n p) bad good = settle-then f p bad good
+settle-then f (take a) bad good = refl
+
+module _ (s : State) (k : Call) where
+  abbrev answers : Plan Effect → Result Report
+  answers p = outBy s k (settle refuse accept p) .answer
+
+  checks : (b : Bool) (n : ℕ) (p : Plan Effect) → answers (check b n p) ≡ refusing b n (answers p)
+  unfolding settle
+  checks true n p = refl
+  checks false n p = refl
+
+  -- one check, and a rest that is known where it is passed
+  then-checks : (b : Bool) (n : ℕ) (p : Plan Effect) (q : Result Report) → (b ≡ false → answers p ≡ q) → answers (check b n p) ≡ refusing b n q
+  then-checks b n p q f = checks b n p ∙ guarded b n (answers p) q f
+
+  -- the first check of every rule
+  formed-first : (p : Plan Effect) → wellFormed (s .connection) ≡ true → answers (check (not (wellFormed (s .connection))) 14 p) ≡ answers p
+  formed-first p e = ap (λ (d : Decision). outBy s k d .answer) (passes refuse accept 14 p (ap not e))
+
+  up-first : (p : Plan Effect) (q : Result Report) → (exchanged (s .connection .stage) ≡ true → answers p ≡ q)
+      → answers (check (not (exchanged (s .connection .stage))) 1 p) ≡ refusing (not (greeted (greetingOf (s .connection .stage)))) 1 q
+  up-first p q f =
+      then-checks (not (exchanged (s .connection .stage))) 1 p q (λ e. f (not-false (exchanged (s .connection .stage)) e))
+      ∙ sym (ap (λ (b : Bool). refusing (not b) 1 q) (greeted-is (s .connection .stage)))
+
+  asks : (n : ℕ) (t : Bool) (w : ℕ) (p : Plan Taken) → Exactly t w p → answers (andThen (with-session (s .connection) n (s .connection .last) done) p) ≡ takenIf t w
+  asks n t w p h = ap (λ (d : Decision). outBy s k d .answer) (settle-then f p refuse accept) ∙ go t refl
+    where
+      f : Taken → Effect
+      f = with-session (s .connection) n (s .connection .last) done
+
+      go : (b : Bool) → t ≡ b → outBy s k (settle refuse (λ a. accept (with-session (s .connection) n (s .connection .last) done a)) p) .answer ≡ takenIf t w
+      go true e =
+          let z = exact-takes refuse (λ a. accept (f a)) (λ a. Unit {0}) t w p h (takes-all (λ a. tt) p) e in
+          ap (λ (d : Decision). outBy s k d .answer) (z .1) ∙ sym (ap (λ (b : Bool). takenIf b w) e)
+      go false e = ap (λ (d : Decision). outBy s k d .answer) (exact-stops refuse (λ a. accept (f a)) t w p h e) ∙ sym (ap (λ (b : Bool). takenIf b w) e)
+
+fresh-is : (st : Stage) → not (isFresh st) ≡ not (ungreeted (greetingOf st))
+fresh-is (stage.Fresh r) = refl
+fresh-is stage.Started = refl
+fresh-is (stage.Up r far) = refl
+
+outstanding-is : (p : Ping) → isOutstanding p ≡ isPinging (pingingOf p)
+outstanding-is waiting.None = refl
+outstanding-is (waiting.Outstanding k) = refl
+
+-- ---- each call, of a state of a run
+
+module _ (s : State) (o : Ok (setupOf (s .connection)) s) (formed : wellFormed (s .connection) ≡ true) where
+  -- the number that a call names is one of the table, or the account does not matter
+  answered : (k : Call) → isLocal k ≡ true → outBy s k (decide (s .connection) (s .queue) k) .answer ≡ localAnswer (setupOf (s .connection)) (length (s .queue)) (accountOf s (askedOf k)) k
+  unfolding startRule openRule putRule finishRule grantRule abortRule closeRule pingRule shutdownRule lostRule settle
+  answered (start room) l =
+      formed-first s (start room) _ formed
+      ∙ then-checks s (start room) (s .connection .over) 2 _ _ (λ _. then-checks s (start room) (ltb (length room) 8) 8 _ _ (λ _. then-checks s (start room) (isServer (roleOf (s .connection .stage))) 4 _ _
+      (λ _. checks s (start room) (not (isFresh (s .connection .stage))) 5 _ ∙ ap (λ (b : Bool). refusing b 5 (ok done)) (fresh-is (s .connection .stage)))))
+  answered (open-session n) l =
+      formed-first s (open-session n) _ formed
+      ∙ then-checks s (open-session n) (s .connection .over) 2 _ _ (λ _. up-first s (open-session n) _ _ (λ up. then-checks s (open-session n) (leb 128 n) 3 _ _
+      (λ _. asks s (open-session n) n _ _ (openAsk (roleOf (s .connection .stage)) (at (s .connection) n)) (open-exact (farStart (s .connection)) (at (s .connection) n) (slot n (s .queue)) (roleOf (s .connection .stage))))))
+  answered (put n bytes) l =
+      formed-first s (put n bytes) _ formed
+      ∙ then-checks s (put n bytes) (s .connection .over) 2 _ _ (λ _. up-first s (put n bytes) _ _ (λ up. then-checks s (put n bytes) (not (eqb (length (s .queue)) queueSize)) 8 _ _
+      (λ _. then-checks s (put n bytes) (leb 128 n) 3 _ _
+      (λ num. let hn = leb-false 128 n num in
+      asks s (put n bytes) n _ _ (putAsk (at (s .connection) n) (length bytes))
+      (put-exact (farStart (s .connection)) (at (s .connection) n) (slot n (s .queue)) (length bytes) (o .fits n hn) (formed-up s o up n hn .waiting))))))
+  answered (finish n) l =
+      formed-first s (finish n) _ formed
+      ∙ then-checks s (finish n) (s .connection .over) 2 _ _ (λ _. up-first s (finish n) _ _ (λ up. then-checks s (finish n) (leb 128 n) 3 _ _
+      (λ _. asks s (finish n) n _ _ (finishAsk (at (s .connection) n)) (finish-exact (farStart (s .connection)) (at (s .connection) n) (slot n (s .queue))))))
+  answered (turn room) l = absurd (false≢true l)
+  answered (grant n amount room) l =
+      formed-first s (grant n amount room) _ formed
+      ∙ then-checks s (grant n amount room) (s .connection .over) 2 _ _ (λ _. up-first s (grant n amount room) _ _ (λ up. then-checks s (grant n amount room) (ltb (length room) 4) 8 _ _
+      (λ _. then-checks s (grant n amount room) (leb 128 n) 3 _ _
+      (λ _. asks s (grant n amount room) n _ _ (grantAsk (at (s .connection) n) amount) (grant-exact (farStart (s .connection)) (at (s .connection) n) (slot n (s .queue)) amount)))))
+  answered (abort n partial room) l =
+      formed-first s (abort n partial room) _ formed
+      ∙ then-checks s (abort n partial room) (s .connection .over) 2 _ _ (λ _. up-first s (abort n partial room) _ _ (λ up. then-checks s (abort n partial room) (ltb (length room) 4) 8 _ _
+      (λ _. then-checks s (abort n partial room) (leb 128 n) 3 _ _
+      (λ _. asks s (abort n partial room) n _ _ (abortAsk (roleOf (s .connection .stage)) (at (s .connection) n) partial)
+      (abort-exact (farStart (s .connection)) (at (s .connection) n) (slot n (s .queue)) (roleOf (s .connection .stage)) partial)))))
+  answered (close n room) l =
+      formed-first s (close n room) _ formed
+      ∙ then-checks s (close n room) (s .connection .over) 2 _ _ (λ _. up-first s (close n room) _ _ (λ up. then-checks s (close n room) (ltb (length room) 4) 8 _ _
+      (λ _. then-checks s (close n room) (leb 128 n) 3 _ _
+      (λ num. asks s (close n room) n _ _ (closeAsk (roleOf (s .connection .stage)) (at (s .connection) n))
+      (close-exact (farStart (s .connection)) (at (s .connection) n) (slot n (s .queue)) (roleOf (s .connection .stage)) (formed-up s o up n (leb-false 128 n num) .place))))))
+  answered (log.ping cookie room) l =
+      formed-first s (log.ping cookie room) _ formed
+      ∙ then-checks s (log.ping cookie room) (s .connection .over) 2 _ _ (λ _. up-first s (log.ping cookie room) _ _ (λ up. then-checks s (log.ping cookie room) (ltb (length room) 4) 8 _ _
+      (λ _. checks s (log.ping cookie room) (isOutstanding (s .connection .ping)) 13 _ ∙ ap (λ (b : Bool). refusing b 13 (ok done)) (outstanding-is (s .connection .ping)))))
+  answered (shutdown room) l =
+      formed-first s (shutdown room) _ formed
+      ∙ then-checks s (shutdown room) (s .connection .over) 2 _ _ (λ _. up-first s (shutdown room) _ _ (λ up. then-checks s (shutdown room) (ltb (length room) 4) 8 _ _
+      (λ _. checks s (shutdown room) (isClient (roleOf (s .connection .stage))) 4 _)))
+  answered lost l = formed-first s lost _ formed ∙ checks s lost (s .connection .over) 2 _
+  answered (receive input room) l = absurd (false≢true l)
+
+-- ---- what turn and receive refuse before they search or read
+
+-- an answer behind checks is behind them still
+again-4 : (a b c d : Bool) (n m p q : ℕ) (x : Result Report)
+    → refusing a n (refusing b m (refusing c p (refusing d q x))) ≡ refusing a n (refusing b m (refusing c p (refusing d q (refusing a n (refusing b m (refusing c p (refusing d q x)))))))
+again-4 true b c d n m p q x = refl
+again-4 false true c d n m p q x = refl
+again-4 false false true d n m p q x = refl
+again-4 false false false true n m p q x = refl
+again-4 false false false false n m p q x = refl
+
+again-3 : (a b c : Bool) (n m p : ℕ) (x : Result Report)
+    → refusing a n (refusing b m (refusing c p x)) ≡ refusing a n (refusing b m (refusing c p (refusing a n (refusing b m (refusing c p x)))))
+again-3 true b c n m p x = refl
+again-3 false true c n m p x = refl
+again-3 false false true n m p x = refl
+again-3 false false false n m p x = refl
+
+unstarted-is : (st : Stage) → unstarted st ≡ isUnstarted (roleOf st) (greetingOf st)
+unstarted-is (stage.Fresh r) = refl
+unstarted-is stage.Started = refl
+unstarted-is (stage.Up r far) = refl
+
+module _ (s : State) (formed : wellFormed (s .connection) ≡ true) where
+  turn-gate : (room : List ℕ) → outBy s (turn room) (decide (s .connection) (s .queue) (turn room)) .answer
+      ≡ gateAnswer (setupOf (s .connection)) (length (s .queue)) (lineOf (s .connection)) (turn room) (outBy s (turn room) (decide (s .connection) (s .queue) (turn room)) .answer)
+  unfolding turnRule
+  turn-gate room = to-rest
+      ∙ again-4 (s .connection .over) (not (greeted (greetingOf (s .connection .stage)))) (ltb (length room) turnRoom) (not (eqb (length (s .queue)) queueSize)) 2 1 8 8 rest
+      ∙ ap (gateAnswer (setupOf (s .connection)) (length (s .queue)) (lineOf (s .connection)) (turn room)) (sym to-rest)
+    where
+      rest : Result Report
+      rest = answers s (turn room) (serving (s .connection) (nextReady (s .connection)))
+
+      to-rest : answers s (turn room) (turnRule (s .connection) (length (s .queue)) (length room))
+          ≡ gateAnswer (setupOf (s .connection)) (length (s .queue)) (lineOf (s .connection)) (turn room) rest
+      to-rest =
+          formed-first s (turn room) _ formed
+          ∙ then-checks s (turn room) (s .connection .over) 2 _ _ (λ _. up-first s (turn room) _ _ (λ _. then-checks s (turn room) (ltb (length room) turnRoom) 8 _ _
+          (λ _. checks s (turn room) (not (eqb (length (s .queue)) queueSize)) 8 _)))
+
+  -- a receive's rule, by its checks
+  module _ (input room : List ℕ) where
+    hears : Plan Unit → Result Report
+    hears p = outBy s (receive input room) (settle refuse (λ go. reading (s .connection) input (s .connection .stage)) p) .answer
+
+    heard-checks : (b : Bool) (n : ℕ) (p : Plan Unit) → hears (check b n p) ≡ refusing b n (hears p)
+    unfolding settle hears
+    heard-checks true n p = refl
+    heard-checks false n p = refl
+
+    receive-gate : outBy s (receive input room) (decide (s .connection) (s .queue) (receive input room)) .answer
+        ≡ gateAnswer (setupOf (s .connection)) (length (s .queue)) (lineOf (s .connection)) (receive input room) (outBy s (receive input room) (decide (s .connection) (s .queue) (receive input room)) .answer)
+    unfolding receiveRule hears
+    receive-gate =
+        to-rest ∙ again-3 (s .connection .over) (isUnstarted (roleOf (s .connection .stage)) (greetingOf (s .connection .stage))) (ltb (length room) 12) 2 1 8 (hears (take tt))
+        ∙ ap (gateAnswer (setupOf (s .connection)) (length (s .queue)) (lineOf (s .connection)) (receive input room)) (sym to-rest)
+      where
+        to-rest : hears (receiveGate (s .connection) (length room))
+            ≡ gateAnswer (setupOf (s .connection)) (length (s .queue)) (lineOf (s .connection)) (receive input room) (hears (take tt))
+        to-rest =
+            ap (λ (d : Decision). outBy s (receive input room) d .answer)
+            (passes refuse (λ go. reading (s .connection) input (s .connection .stage)) 14 (check (s .connection .over) 2 (check (unstarted (s .connection .stage)) 1 (check (ltb (length room) 12) 8 (take tt)))) (ap not formed))
+            ∙ heard-checks (s .connection .over) 2 (check (unstarted (s .connection .stage)) 1 (check (ltb (length room) 12) 8 (take tt)))
+            ∙ ap (refusing (s .connection .over) 2)
+            (heard-checks (unstarted (s .connection .stage)) 1 (check (ltb (length room) 12) 8 (take tt))
+            ∙ ap (λ (b : Bool). refusing b 1 (hears (check (ltb (length room) 12) 8 (take tt)))) (unstarted-is (s .connection .stage))
+            ∙ ap (refusing (isUnstarted (roleOf (s .connection .stage)) (greetingOf (s .connection .stage))) 1) (heard-checks (ltb (length room) 12) 8 (take tt)))
+
+  gates : (k : Call) → outBy s k (decide (s .connection) (s .queue) k) .answer
+      ≡ gateAnswer (setupOf (s .connection)) (length (s .queue)) (lineOf (s .connection)) k (outBy s k (decide (s .connection) (s .queue) k) .answer)
+  gates (start room) = refl
+  gates (open-session n) = refl
+  gates (put n bytes) = refl
+  gates (finish n) = refl
+  gates (turn room) = turn-gate room
+  gates (grant n amount room) = refl
+  gates (abort n partial room) = refl
+  gates (close n room) = refl
+  gates (log.ping cookie room) = refl
+  gates (shutdown room) = refl
+  gates lost = refl
+  gates (receive input room) = receive-gate input room
+
+-- ---- a number above 127 is refused whatever is told of it
+
+line-of-any : (s : Setup) (n m : ℕ) (es : List Entry) (a b : Account) → a .line ≡ b .line → fold (accountAfter s n) a es .line ≡ fold (accountAfter s m) b es .line
+unfolding fold accountAfter
+line-of-any s n m [] a b e = e
+line-of-any s n m (x ∷ es) a b e = line-of-any s n m es (accountAfter s n a x) (accountAfter s m b x) (ap (λ (l : Line). lineAfter l x) e)
+
+module _ (s : Setup) (q : ℕ) (a b : Account) (e : a .line ≡ b .line) where
+  -- past the checks before it, 3 comes first
+  beyond : (n : ℕ) → leb 128 n ≡ true → (x y : Result Report) → ifNumber n x ≡ ifNumber n y
+  beyond n h x y = ap (λ (c : Bool). refusing c 3 x) h ∙ sym (ap (λ (c : Bool). refusing c 3 y) h)
+
+  up-same : {x y : Result Report} → x ≡ y → ifUp (a .line) x ≡ ifUp (b .line) y
+  up-same p = rw (e, p)
+
+  unknown : (k : Call) → leb 128 (askedOf k) ≡ true → localAnswer s q a k ≡ localAnswer s q b k
+  unknown (start room) h = absurd (false≢true h)
+  unknown (open-session n) h = up-same (beyond n h _ _)
+  unknown (put n bytes) h = up-same (ap (refusing (not (eqb q queueSize)) 8) (beyond n h _ _))
+  unknown (finish n) h = up-same (beyond n h _ _)
+  unknown (turn room) h = refl
+  unknown (grant n amount room) h = up-same (ap (ifRoom 4 room) (beyond n h _ _))
+  unknown (abort n partial room) h = up-same (ap (ifRoom 4 room) (beyond n h _ _))
+  unknown (close n room) h = up-same (ap (ifRoom 4 room) (beyond n h _ _))
+  unknown (log.ping cookie room) h = absurd (false≢true h)
+  unknown (shutdown room) h = absurd (false≢true h)
+  unknown lost h = absurd (false≢true h)
+  unknown (receive input room) h = refl
+
+-- ---- of a log
+
+module _ (setup : Setup) (hh : setup .header < 65_536) (queue : List ℕ) where
+  line-is : (n : ℕ) (ks : List Call) → observed setup n (log.log setup queue ks) .line ≡ lineOf (log.run setup queue ks .connection)
+  unfolding observed
+  line-is n ks =
+      line-of-any setup n 0 (log.log setup queue ks) (blankAccount setup) (blankAccount setup) refl
+      ∙ ap (λ (a : Account). a .line) (observed-is setup hh queue ks 0 (omega arith))
+
+  told-calls : (ks : List Call) (k : Call)
+      → localAnswer setup (length queue) (accountOf (log.run setup queue ks) (askedOf k)) k ≡ localAnswer setup (length queue) (observed setup (askedOf k) (log.log setup queue ks)) k
+  told-calls ks k = go (leb 128 (askedOf k)) refl
+    where
+      go : (b : Bool) → leb 128 (askedOf k) ≡ b
+          → localAnswer setup (length queue) (accountOf (log.run setup queue ks) (askedOf k)) k ≡ localAnswer setup (length queue) (observed setup (askedOf k) (log.log setup queue ks)) k
+      go true e = unknown setup (length queue) _ _ (sym (line-is (askedOf k) ks)) k e
+      go false e = ap (λ (a : Account). localAnswer setup (length queue) a k) (sym (observed-is setup hh queue ks (askedOf k) (leb-false 128 (askedOf k) e)))
+
+  asked-calls : (ks : List Call) (k : Call) → isLocal k ≡ true
+      → out (log.run setup queue ks) k .answer ≡ localAnswer setup (length queue) (observed setup (askedOf k) (log.log setup queue ks)) k
+  unfolding out
+  asked-calls ks k l =
+      let s = log.run setup queue ks in
+      let o = run-made setup hh queue ks in
+      answered s (own-ok setup s o) (ok-formed setup s o) k l
+      ∙ ap (λ (z : Setup). localAnswer z (length (s .queue)) (accountOf s (askedOf k)) k) (same-setup setup s o)
+      ∙ ap (λ (n : ℕ). localAnswer setup n (accountOf s (askedOf k)) k) (run-long setup (made setup queue) ks (made-ok setup hh queue))
+      ∙ told-calls ks k
+
+  -- of every role, header number, queue and list of calls
+  pub asks-exactly : (calls : List Call) → AsksExactly setup (length queue) (log.log setup queue calls)
+  unfolding out
+  asks-exactly calls a c e z l =
+      of-entries setup queue (λ g x. isLocal (x .call) ≡ true → x .answer ≡ localAnswer setup (length queue) (observed setup (askedOf (x .call)) g) (x .call))
+      (λ ks k h. asked-calls ks k h) calls a c e z l
+
+  gated-calls : (ks : List Call) (k : Call)
+      → out (log.run setup queue ks) k .answer ≡ gateAnswer setup (length queue) (observed setup 0 (log.log setup queue ks) .line) k (out (log.run setup queue ks) k .answer)
+  unfolding out
+  gated-calls ks k =
+      let s = log.run setup queue ks in
+      let o = run-made setup hh queue ks in
+      let x = outBy s k (decide (s .connection) (s .queue) k) .answer in
+      gates s (ok-formed setup s o) k
+      ∙ ap (λ (z : Setup). gateAnswer z (length (s .queue)) (lineOf (s .connection)) k x) (same-setup setup s o)
+      ∙ ap (λ (n : ℕ). gateAnswer setup n (lineOf (s .connection)) k x) (run-long setup (made setup queue) ks (made-ok setup hh queue))
+      ∙ ap (λ (l : Line). gateAnswer setup (length queue) l k x) (sym (line-is 0 ks))
+
+  pub gates-exactly : (calls : List Call) → GatesExactly setup (length queue) (log.log setup queue calls)
+  unfolding out
+  gates-exactly calls a c e z =
+      of-entries setup queue (λ g x. x .answer ≡ gateAnswer setup (length queue) (observed setup 0 g .line) (x .call) (x .answer)) gated-calls calls a c e z

@@ -1,0 +1,171 @@
+-- What each entry of a log means to write, and which of it may be written then; told from the log alone.
+use Prim.Native.Nat.{ℕ, _+_}
+use mathlib.Core.Path.{_≡_}
+use mathlib.Core.Bool.{Bool, true, false, not, _&&_}
+use mathlib.Core.List.{List, [], _∷_, _++_, map}
+use lib.ListN.{drop}
+use lib.Dec.{eqb}
+use Rattle.laws.specs.Pick.{pick}
+use Rattle.laws.specs.Result.{Result, ok, refused, violation}
+use Rattle.wire.specs.declared.Role.{Role}
+use Rattle.wire.specs.declared.Message.{Message}
+use Rattle.wire.specs.declared.Message.the-variants as msg
+use Rattle.wire.specs.Message.{isClient, isServer, bodyLength, readMessage}
+use Rattle.wire.specs.Connection.{readConnectionHeader}
+use Rattle.protocol.specs.declared.Setup.{Setup}
+use Rattle.protocol.specs.Message.{SessionMessage, increment-of, abort-of, close-of, Scope, whole, of-session, scope, numbered}
+use Rattle.protocol.specs.Judge.{Report, done, served, header, message, Out, opening, sent}
+use Rattle.protocol.specs.Observed.{Greeting, no-header, own-header, both-headers, greeted, Seen, repliesTo, dueData, mayWrite, fromRole}
+use Rattle.protocol.specs.Asked.{isUnsent}
+use Rattle.history.specs.Log.{Call, start, open-session, put, finish, turn, grant, abort, close, ping, shutdown, lost, receive, Entry}
+use Rattle.history.specs.Account.{Account, concerned, farOf, seenBefore}
+
+-- ---- what is meant
+
+-- our header has not been sent
+abbrev pub ungreeted : Greeting → Bool
+ungreeted no-header = true
+ungreeted own-header = false
+ungreeted (both-headers far) = false
+
+-- the next thing to arrive is the far header
+abbrev pub headerDue : Role → Greeting → Bool
+headerDue r no-header = isServer r
+headerDue r own-header = true
+headerDue r (both-headers far) = false
+
+-- of the session that one of our calls names; the abort of an open that is unsent means nothing
+abbrev pub askedToSend : Call → Seen → List SessionMessage
+askedToSend (start room) v = []
+askedToSend (open-session n) v = []
+askedToSend (put n bytes) v = []
+askedToSend (finish n) v = []
+askedToSend (turn room) v = []
+askedToSend (grant n amount room) v = increment-of amount ∷ []
+askedToSend (abort n partial room) v = pick (isUnsent (v .sends)) [] (abort-of partial ∷ [])
+askedToSend (close n room) v = close-of ∷ []
+askedToSend (ping cookie room) v = []
+askedToSend (shutdown room) v = []
+askedToSend lost v = []
+askedToSend (receive input room) v = []
+
+abbrev pub answeredIn : Role → Seen → Scope → List SessionMessage
+answeredIn r v whole = []
+answeredIn r v (of-session i m) = repliesTo r (v .standing) m
+
+-- a turn sends what is due, a message received gets its answer
+abbrev pub meantFor : Role → Call → Report → Seen → List SessionMessage
+meantFor r k done v = askedToSend k v
+meantFor r k (served n) v = dueData (v .sends) ∷ []
+meantFor r k (header far) v = []
+meantFor r k (message m late) v = answeredIn r v (scope m)
+
+-- of the connection as a whole: a client's start is its header, a ping Ping, a shutdown Shutdown
+abbrev pub askedOfAll : ℕ → Call → List Out
+askedOfAll own (start room) = opening own ∷ []
+askedOfAll own (open-session n) = []
+askedOfAll own (put n bytes) = []
+askedOfAll own (finish n) = []
+askedOfAll own (turn room) = []
+askedOfAll own (grant n amount room) = []
+askedOfAll own (abort n partial room) = []
+askedOfAll own (close n room) = []
+askedOfAll own (ping cookie room) = sent (msg.Ping cookie) ∷ []
+askedOfAll own (shutdown room) = sent (msg.Shutdown 0) ∷ []
+askedOfAll own lost = []
+askedOfAll own (receive input room) = []
+
+-- a Ping is answered with a PingAck of its cookie
+abbrev pub answerOfAll : Message → List Out
+answerOfAll (msg.NoOperation n) = []
+answerOfAll (msg.Shutdown n) = []
+answerOfAll (msg.Ping k) = sent (msg.PingAck k) ∷ []
+answerOfAll (msg.PingAck k) = []
+answerOfAll (msg.Error n) = []
+answerOfAll (msg.IncrementRation t i n) = []
+answerOfAll (msg.Abort p i n) = []
+answerOfAll (msg.Close i) = []
+answerOfAll (msg.Acknowledgment i) = []
+answerOfAll (msg.Data o c e a i n) = []
+
+-- a server answers the first header with its own
+abbrev pub meantOfAll : Setup → Call → Report → List Out
+meantOfAll s k done = askedOfAll (s .header) k
+meantOfAll s k (served n) = []
+meantOfAll s k (header far) = pick (isServer (s .role)) (opening (s .header) ∷ []) []
+meantOfAll s k (message m late) = answerOfAll m
+
+-- a violation is answered with Error, after our header where that was not sent; a refusal below 20 means nothing
+abbrev pub meantBy : Setup → Account → Call → Result Report → List Out
+meantBy s a k (ok p) = meantOfAll s k p ++ map (λ m. sent (numbered (concerned k (ok p)) m)) (meantFor (s .role) k p (a .seen))
+meantBy s a k (refused n) = []
+meantBy s a k (violation n) = pick (ungreeted (a .line .greeting)) (opening (s .header) ∷ []) [] ++ (sent (msg.Error 0) ∷ [])
+
+-- ---- what is read
+
+-- the other end reads the bytes as these, one after another, and nothing is left over
+unfoldable pub ReadAs : Role → List ℕ → List Out → Type 0
+ReadAs from bytes [] = bytes ≡ []
+ReadAs from bytes (opening n ∷ outs) = (readConnectionHeader bytes ≡ ok n) × ReadAs from (drop 8 bytes) outs
+ReadAs from bytes (sent m ∷ outs) = (readMessage from bytes ≡ ok m) × ReadAs from (drop (4 + bodyLength m) bytes) outs
+
+-- ---- what may be written
+
+-- what is taken is a Ping with the cookie
+abbrev pub isPing : ℕ → Result Report → Bool
+isPing k (ok done) = false
+isPing k (ok (served n)) = false
+isPing k (ok (header far)) = false
+isPing k (ok (message (msg.NoOperation n) late)) = false
+isPing k (ok (message (msg.Shutdown n) late)) = false
+isPing k (ok (message (msg.Ping j) late)) = eqb j k
+isPing k (ok (message (msg.PingAck j) late)) = false
+isPing k (ok (message (msg.Error n) late)) = false
+isPing k (ok (message (msg.IncrementRation t i n) late)) = false
+isPing k (ok (message (msg.Abort p i n) late)) = false
+isPing k (ok (message (msg.Close i) late)) = false
+isPing k (ok (message (msg.Acknowledgment i) late)) = false
+isPing k (ok (message (msg.Data o c e a i n) late)) = false
+isPing k (refused n) = false
+isPing k (violation n) = false
+
+abbrev pub isViolation : Result Report → Bool
+isViolation (ok r) = false
+isViolation (refused n) = false
+isViolation (violation n) = true
+
+-- our header goes at a client's start, or where a server has the far header or finds it bad
+abbrev pub greets : Role → Result Report → Bool
+greets r (ok done) = isClient r
+greets r (ok (served n)) = false
+greets r (ok (header far)) = isServer r
+greets r (ok (message m late)) = false
+greets r (refused n) = false
+greets r (violation n) = isServer r
+
+-- a PingAck answers one Ping, a Shutdown is a server's, an Error answers a violation; nothing else goes before the headers are
+-- exchanged
+abbrev pub wholeMayGo : Role → Bool → Result Report → Message → Bool
+wholeMayGo r up answer (msg.NoOperation n) = up
+wholeMayGo r up answer (msg.Shutdown n) = up && isServer r
+wholeMayGo r up answer (msg.Ping k) = up
+wholeMayGo r up answer (msg.PingAck k) = up && isPing k answer
+wholeMayGo r up answer (msg.Error n) = isViolation answer
+wholeMayGo r up answer (msg.IncrementRation t i n) = false
+wholeMayGo r up answer (msg.Abort p i n) = false
+wholeMayGo r up answer (msg.Close i) = false
+wholeMayGo r up answer (msg.Acknowledgment i) = false
+wholeMayGo r up answer (msg.Data o c e a i n) = false
+
+-- a session's message is of the number that the entry concerns, of a type and with flags that are ours, and one that 002 lets us
+-- send now
+abbrev pub messageMayGo : Setup → Account → Entry → Message → Scope → Bool
+messageMayGo s a e m whole = wholeMayGo (s .role) (greeted (a .line .greeting)) (e .answer) m
+messageMayGo s a e m (of-session i x) =
+    eqb i (concerned (e .call) (e .answer)) && greeted (a .line .greeting)
+    && fromRole (s .role) x && mayWrite (s .role) (farOf (a .line)) (seenBefore s (concerned (e .call) (e .answer)) a e) x
+
+-- nothing goes on a connection that is over, and our header goes once and in its turn
+abbrev pub mayGo : Setup → Account → Entry → Out → Bool
+mayGo s a e (opening n) = not (a .line .over) && ungreeted (a .line .greeting) && greets (s .role) (e .answer)
+mayGo s a e (sent m) = not (a .line .over) && messageMayGo s a e m (scope m)
