@@ -1,0 +1,3 @@
+-- What the proofs of the local calls share.
+pub mod Queued
+pub mod Steps

@@ -1,0 +1,2 @@
+-- The definition of what a put gives.
+pub mod Put

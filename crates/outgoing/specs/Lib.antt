@@ -1,0 +1,2 @@
+-- The definitions of what one end writes.
+pub mod Outgoing

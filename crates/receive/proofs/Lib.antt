@@ -1,0 +1,3 @@
+-- What the proofs of receive share.
+pub mod Rooms
+pub mod Rules

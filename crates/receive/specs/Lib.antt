@@ -1,0 +1,2 @@
+-- The definitions of what a receive gives from what it comes to.
+pub mod Concluded

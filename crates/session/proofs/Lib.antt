@@ -1,0 +1,2 @@
+-- What several proofs of a session's steps share.
+pub mod Rations

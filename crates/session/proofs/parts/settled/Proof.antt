@@ -1,0 +1,10 @@
+-- `settled` meets its contract, from what `becomes` ensures.
+use borrow.Author.Needs.{needs}
+use Rattle.session.proofs.parts.settled.Statement.{statement}
+use Rattle.session.proofs.parts.settled.Tie as tie
+
+returns : tie.Need-returns
+returns c = cc
+
+pub settled-spec : {M : Type 1} → statement M
+settled-spec = tie.close (tie.spec (λ c κs. search needs) returns)

@@ -1,0 +1,2 @@
+-- The definitions of what a session's steps answer.
+pub mod Step

@@ -1,0 +1,2 @@
+-- What the proofs of the queue share.
+pub mod Parts

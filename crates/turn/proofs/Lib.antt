@@ -1,0 +1,4 @@
+-- What the proofs of a turn share.
+pub mod Ready
+pub mod Served
+pub mod Whole

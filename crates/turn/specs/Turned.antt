@@ -1,0 +1,17 @@
+-- What a turn gives from what it decides: the call's result, the queue and the room.
+use Prim.Native.Nat.{ℕ}
+use mathlib.Core.List.{List}
+use lib.ListN.{set}
+use Rattle.protocol.specs.declared.Session.{Session}
+use Rattle.protocol.specs.declared.Connection.{Connection}
+use Rattle.protocol.specs.Judge.{Decision}
+use Rattle.protocol.specs.Result.{Given, given, ifTaken, turned, turnPayload, writtenBy, over}
+
+-- the number that is served gets another session and is served last
+abbrev pub withServed : Connection → ℕ → Session → Connection
+withServed c n x =
+    record { sessions = set (c .sessions) n x; stage = c .stage; over = c .over; own = c .own; last = n; ping = c .ping }
+
+abbrev pub turnGives : Connection → List ℕ → List ℕ → Decision → Given × List ℕ × List ℕ
+turnGives c queue room d =
+    (given c (turnPayload queue d) d, ifTaken d (turned c queue) queue, over (writtenBy (turnPayload queue d) d) room)
