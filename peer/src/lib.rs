@@ -1,0 +1,23 @@
+//! An independent second implementation of one end of the Jini ERI multiplexing protocol.
+//!
+//! It was written from three papers alone: 01-scope.md, document 002 and REPLAY.md. Its points
+//! of doubt, and the readings taken, are in READINGS.md.
+
+pub mod clock;
+pub mod compare;
+pub mod corners;
+pub mod cover;
+pub mod engine;
+pub mod far;
+pub mod make;
+pub mod noise;
+pub mod pick;
+pub mod play;
+pub mod ration;
+pub mod refusal;
+pub mod rng;
+pub mod runner;
+pub mod script;
+pub mod session;
+pub mod shrink;
+pub mod wire;

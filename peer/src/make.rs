@@ -1,0 +1,415 @@
+//! Makes random scripts: the same seed and number of calls always give the same script.
+//!
+//! A script plays one end, the near end. The maker runs that end itself to know what it wrote,
+//! and either plays a whole far end with delay on the line, or feeds single messages by chance.
+
+mod alone;
+mod joined;
+
+use crate::engine::Phase;
+use crate::noise;
+use crate::pick;
+use crate::play::{Player, Report};
+use crate::rng::Rng;
+use crate::script::{Call, First};
+use crate::session::Session;
+use crate::wire::{Message, Role};
+
+/// The calls of a script where the command names no number.
+pub const USUAL_CALLS: u64 = 200;
+
+/// Of so many seeds one plays the long grant run, whatever the number of calls.
+const LONG_GRANT_EVERY: u64 = 2048;
+const LONG_GRANT_SEED: u64 = 78;
+
+/// Of so many seeds one is about a first byte; 1,024 seeds in a row have all first bytes.
+const FIRST_BYTE_EVERY: u64 = 4;
+const FIRST_BYTE_SEED: u64 = 1;
+
+/// What a script is about.
+#[derive(Clone, Copy, Debug, PartialEq, Eq)]
+enum Plan {
+    /// Two whole ends with bytes on their way between them.
+    Joined,
+    /// The near end alone, fed with single messages by chance.
+    Walk,
+    /// Calls and damage around the connection headers.
+    Headers,
+    /// A queue of the wrong length.
+    WrongQueue,
+    /// Grants until the inbound ration is full.
+    LongGrant,
+    /// A short walk, then a message with this first byte.
+    FirstByte(u8),
+    /// Lines at the edge of the script language, and past it.
+    Lines,
+}
+
+/// How a script is seasoned.
+struct Taste {
+    /// From this call on, damaged input may come.
+    noise_from: u64,
+    /// How many of a hundred calls are made without a look at the state.
+    wild: u64,
+    /// How many of a hundred calls are followed by a `state` or `queue` line.
+    looks: u64,
+    /// How many of a hundred deliveries are cut.
+    cuts: u64,
+    /// How likely in a hundred a message takes a number towards the largest ration.
+    brim: u64,
+    /// Weights of near calls, far acts, deliveries to the near end and to the far end.
+    tempo: [u32; 4],
+}
+
+struct Maker {
+    rng: Rng,
+    text: Vec<u8>,
+    near: Player,
+    first: First,
+    pool: Vec<u8>,
+    limit: u64,
+    said: u64,
+    taste: Taste,
+}
+
+/// Makes the script of a seed, of at most about that many calls.
+pub fn make(seed: u64, calls: u64) -> Vec<u8> {
+    let mut rng = Rng::new(seed);
+    let plan = choose_plan(&mut rng, seed);
+    let mut maker = Maker::new(rng, plan, calls);
+    maker.begin();
+    match plan {
+        Plan::Joined => maker.joined(),
+        Plan::Walk | Plan::WrongQueue => maker.walk(),
+        Plan::Headers => maker.headers(),
+        Plan::LongGrant => maker.long_grant(),
+        Plan::FirstByte(first) => maker.first_byte(first),
+        Plan::Lines => maker.odd_lines(),
+    }
+    maker.end();
+    maker.text
+}
+
+/// Chooses what the script is about; every fourth seed is about the next first byte.
+fn choose_plan(rng: &mut Rng, seed: u64) -> Plan {
+    let plans = [
+        Plan::Joined,
+        Plan::Walk,
+        Plan::Headers,
+        Plan::WrongQueue,
+        Plan::Lines,
+    ];
+    let plan = plans[rng.weighted(&[41, 38, 9, 4, 8])];
+    if seed % LONG_GRANT_EVERY == LONG_GRANT_SEED {
+        return Plan::LongGrant;
+    }
+    if seed % FIRST_BYTE_EVERY == FIRST_BYTE_SEED {
+        return Plan::FirstByte((seed / FIRST_BYTE_EVERY % 256) as u8);
+    }
+    plan
+}
+
+/// Chooses a header number: often one with a small or an endless ration.
+fn choose_header(rng: &mut Rng) -> u16 {
+    match rng.below(10) {
+        0..=3 => 1,
+        4 => rng.between(2, 4) as u16,
+        5 | 6 => 0,
+        7 => rng.one_of(&[255, 256, 65_535]),
+        _ => rng.short(),
+    }
+}
+
+/// Chooses a queue of a wrong length, and now and then the right one by name.
+fn choose_queue(rng: &mut Rng) -> u32 {
+    match rng.below(3) {
+        0 => rng.below(70_001) as u32,
+        _ => rng.one_of(&[0, 1, 255, 256, 512, 32_767, 32_768, 32_769, 70_000]),
+    }
+}
+
+/// Chooses how the script is seasoned.
+fn choose_taste(rng: &mut Rng, limit: u64) -> Taste {
+    let clean = rng.percent(45);
+    Taste {
+        noise_from: if clean {
+            u64::MAX
+        } else {
+            rng.below(limit + 1)
+        },
+        wild: rng.one_of(&[0, 4, 12, 30]),
+        looks: rng.one_of(&[4, 12, 30]),
+        cuts: rng.one_of(&[0, 5, 15]),
+        brim: rng.one_of(&[0, 0, 0, 8]),
+        tempo: [0; 4].map(|_| rng.between(3, 12) as u32),
+    }
+}
+
+impl Maker {
+    fn new(mut rng: Rng, plan: Plan, calls: u64) -> Maker {
+        let role = rng.one_of(&[Role::Client, Role::Server]);
+        let header = choose_header(&mut rng);
+        let queue = (plan == Plan::WrongQueue).then(|| choose_queue(&mut rng));
+        let first = First {
+            role,
+            header,
+            queue,
+        };
+        let limit = match rng.below(3) {
+            0 => 1 + rng.below(calls),
+            _ => calls,
+        };
+        let mut taste = choose_taste(&mut rng, limit);
+        if plan == Plan::WrongQueue {
+            taste.wild = 40;
+        }
+        Maker {
+            near: Player::new(&first),
+            pool: pick::pool(&mut rng),
+            taste,
+            rng,
+            text: Vec::new(),
+            first,
+            limit,
+            said: 0,
+        }
+    }
+
+    /// Writes the first line, at times after lines that are skipped.
+    fn begin(&mut self) {
+        while self.rng.percent(10) {
+            self.skipped_line();
+        }
+        let mut line = Vec::new();
+        self.first.write(&mut line);
+        self.raw_line(&line);
+    }
+
+    /// Adds a line as it is.
+    fn raw_line(&mut self, line: &[u8]) {
+        self.text.extend_from_slice(line);
+        self.text.push(b'\n');
+    }
+
+    /// Adds a line that is skipped: empty, or a comment with any bytes in it.
+    fn skipped_line(&mut self) {
+        let mut line = Vec::new();
+        if self.rng.percent(60) {
+            line.push(b'#');
+            let count = self.rng.below(20) as usize;
+            line.extend(self.rng.bytes(count));
+            line.retain(|&byte| byte != b'\n');
+        }
+        self.raw_line(&line);
+    }
+
+    /// Writes a call's line, runs it on the near end, and looks at times.
+    fn say(&mut self, call: &Call) -> Result<Report, u8> {
+        let answer = self.say_only(call);
+        if self.rng.percent(self.taste.looks) {
+            self.look(call);
+        }
+        answer
+    }
+
+    /// Writes a call's line and runs it on the near end.
+    fn say_only(&mut self, call: &Call) -> Result<Report, u8> {
+        call.write(&mut self.text);
+        self.text.push(b'\n');
+        if call.is_engine_call() {
+            self.said += 1;
+        }
+        self.near.run(call)
+    }
+
+    /// Adds a `state` line, or a `queue` line of the number that was just served.
+    fn look(&mut self, call: &Call) {
+        let id = match call {
+            Call::Turn { .. } => Some(self.near.engine.last),
+            call => call.id(),
+        };
+        let look = match id {
+            Some(id) if self.rng.percent(35) => Call::Queue { id },
+            _ if self.rng.percent(4) => Call::Queue {
+                id: self.rng.byte(),
+            },
+            _ => Call::State,
+        };
+        look.write(&mut self.text);
+        self.text.push(b'\n');
+    }
+
+    /// Tells whether more calls are wanted and the near end still runs.
+    fn more(&self) -> bool {
+        self.said < self.limit && !self.near.engine.over
+    }
+
+    /// Tells whether damaged input is due now.
+    fn noise_due(&mut self) -> bool {
+        self.said >= self.taste.noise_from && self.rng.percent(20)
+    }
+
+    /// Makes a call without a look at the state.
+    fn wild(&mut self) {
+        let call = pick::wild_call(&mut self.rng, &self.pool, false);
+        // Its bytes go nowhere but to the far end, which the joined plan sees to.
+        let _ = self.say(&call);
+    }
+
+    /// Gives bytes to the near end, with a room that fits or not.
+    fn receive(&mut self, bytes: Vec<u8>) -> Result<Report, u8> {
+        let headers = match self.near.engine.phase {
+            Phase::Up(_) => 0,
+            _ => 35,
+        };
+        let room = if self.rng.percent(self.taste.wild + headers) {
+            pick::room(&mut self.rng)
+        } else {
+            None
+        };
+        self.say(&Call::Receive { bytes, room })
+    }
+
+    /// Gives damaged input to the near end.
+    fn noise(&mut self) {
+        let bytes = match self.near.engine.phase {
+            Phase::Up(_) if self.rng.percent(10) => return self.past_the_brim(),
+            Phase::Up(_) if self.rng.percent(5) => return self.wrong_cookie(),
+            Phase::Up(_) => noise::bad_message(&mut self.rng, &self.near.engine, &self.pool),
+            _ => noise::bad_header(&mut self.rng),
+        };
+        let _ = self.receive(bytes);
+    }
+
+    /// Pings and answers with another cookie.
+    fn wrong_cookie(&mut self) {
+        let cookie = self.rng.short();
+        let _ = self.say(&Call::Ping { cookie, room: None });
+        let outstanding = self.near.engine.ping.unwrap_or(cookie);
+        let cookie = outstanding ^ (1 << self.rng.below(16));
+        let _ = self.receive(Message::PingAck { cookie }.start().to_vec());
+    }
+
+    /// Fills an outbound ration to its largest, and at times one more.
+    fn past_the_brim(&mut self) {
+        let engine = &self.near.engine;
+        let open = |id: &&u8| pick::brim_increment(engine, **id).is_some();
+        let Some(&id) = self.pool.iter().find(open) else {
+            return;
+        };
+        for _ in 0..3 {
+            if let Some(message) = pick::brim_increment(&self.near.engine, id) {
+                let _ = self.receive(message.start().to_vec());
+            }
+        }
+        if self.rng.percent(80) {
+            let shift = self.rng.one_of(&[0, 0, 0, 3, 7]);
+            let _ = self.receive(vec![0x10 | (shift << 1), id, 0, 1]);
+        }
+    }
+}
+
+/// The end of every script.
+impl Maker {
+    /// Ends the connection in some way, tries calls after it, and looks at all that stands.
+    fn end(&mut self) {
+        if !self.near.engine.over {
+            self.leave_one_opening();
+            self.last_event();
+        }
+        for _ in 0..self.rng.below(5) {
+            let call = pick::wild_call(&mut self.rng, &self.pool, true);
+            let _ = self.say_only(&call);
+        }
+        Call::State.write(&mut self.text);
+        self.text.push(b'\n');
+        let id = if self.first.queue.is_some() {
+            self.rng.byte()
+        } else {
+            self.rng.one_of(&self.pool)
+        };
+        Call::Queue { id }.write(&mut self.text);
+        self.text.push(b'\n');
+        self.last_lines();
+    }
+
+    /// At times opens a number of which nothing will be sent.
+    fn leave_one_opening(&mut self) {
+        let engine = &self.near.engine;
+        let id = pick::id_where(&mut self.rng, engine, &self.pool, Session::may_open);
+        if let (Some(id), true) = (id, self.rng.percent(40)) {
+            let _ = self.say(&Call::Open { id });
+        }
+    }
+
+    /// Does one thing that may end the connection.
+    fn last_event(&mut self) {
+        let room = None;
+        match self.rng.below(7) {
+            0 => {
+                let _ = self.say(&Call::Lost);
+            }
+            1 => {
+                let _ = self.say(&Call::Shutdown { room });
+            }
+            2 => {}
+            3 => {
+                let bytes = noise::last_message(&mut self.rng);
+                let _ = self.receive(bytes);
+            }
+            _ => self.noise(),
+        }
+    }
+
+    /// At times adds a line that is a script error, or leaves out the last 0A.
+    fn last_lines(&mut self) {
+        if self.rng.percent(15) {
+            let line = noise::bad_line(&mut self.rng, &self.pool);
+            self.raw_line(&line);
+            self.raw_line(b"state");
+        }
+        if self.rng.percent(10) {
+            self.text.pop();
+        }
+    }
+}
+
+#[cfg(test)]
+mod tests {
+    use super::*;
+    use crate::far::Far;
+    use crate::pick::Mood;
+    use crate::session::Outcome;
+
+    #[test]
+    fn the_same_seed_gives_the_same_script() {
+        for seed in 0..40 {
+            assert_eq!(make(seed, 120), make(seed, 120));
+        }
+    }
+
+    /// Two right ends never find a violation in each other's messages.
+    #[test]
+    fn joined_ends_agree() {
+        let mut completed = 0;
+        for seed in 0..300 {
+            let mut maker = Maker::new(Rng::new(seed), Plan::Joined, 400);
+            maker.taste.noise_from = u64::MAX;
+            maker.taste.wild = 0;
+            maker.begin();
+            let header = choose_header(&mut maker.rng);
+            let mut far = Far::new(maker.first.role.other(), header);
+            while maker.more() {
+                maker.joined_step(&mut far, Mood::Busy);
+                assert!(!far.player.engine.over, "far end over, seed {seed}");
+            }
+            assert!(!maker.near.engine.over, "near end over, seed {seed}");
+            let ends = [&maker.near.engine, &far.player.engine];
+            let complete = |session: &&Session| session.outcome == Outcome::Complete;
+            for engine in ends {
+                completed += engine.sessions.iter().filter(complete).count();
+            }
+        }
+        assert!(completed > 100, "only {completed} sessions were complete");
+    }
+}

