@@ -25,12 +25,12 @@ use denote.Struct.Values.{Values}
 use Rattle.wire.specs.declared.Role.{Role}
 use Rattle.wire.proofs.Role as F
 use Rattle.wire.proofs.Role.Laws as F′
-use Rattle.capture.specs.declared.Next.{Next}
+use Rattle.places.specs.declared.Next.{Next}
 use Rattle.capture.specs.declared.Reader.{Reader}
 use Rattle.capture.proofs.Reader as T
 use Rattle.capture.proofs.Reader.Laws as T′
-use Rattle.capture.proofs.Next as N
-use Rattle.capture.proofs.Next.Laws as N′
+use Rattle.places.proofs.Next as N
+use Rattle.places.proofs.Next.Laws as N′
 
 -- ---- machine values
 

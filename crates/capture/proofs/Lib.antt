@@ -1,5 +1,3 @@
--- The laws of the reader of captures.
+-- The law of the reader of captures, and what the proofs by hand share.
 mod Held
-pub mod Steps
 pub mod Laws
-pub mod Answers

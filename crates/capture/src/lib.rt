@@ -1,29 +1,14 @@
 // The reader of captures, which keeps hold of a capture's bytes and of its place in them.
-mod places;
-
+use places::Next;
+use places::Step;
 use places::next_at;
-use refusal::Refusal;
-use refusal::Violation;
-use wire::Message;
 use wire::Role;
 ghost use mathlib.Core.Path.{_≡_};
-ghost use Rattle.capture.specs.Capture.{opened, stepAt, advanced, nextAs, stepAs};
+ghost use Rattle.places.specs.Place.{stepAt, nextAs, stepAs};
+ghost use Rattle.capture.specs.Capture.{opened, advanced};
 
 // The place of the first message, behind the connection header, which is not read here.
 pub const FIRST_PLACE: usize = 8;
-
-// The next message, or why there is none.
-pub enum Next {
-    Message(Message),
-    Refused(Refusal),
-    Violated(Violation),
-}
-
-// What stands at a place, and the place to read on from: after a message, and the same for a refusal.
-pub struct Step {
-    pub next: Next,
-    pub place: usize,
-}
 
 // A reader at a place of the capture that is lent to it.
 pub struct Reader<'a> {

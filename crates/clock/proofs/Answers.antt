@@ -4,19 +4,10 @@ use Prim.Native.Nat.{ℕ}
 use native.Mathlib.Omega.{arith}
 use Rattle.clock.specs.declared.Outcome.{Outcome}
 use Rattle.clock.specs.declared.Outcome.the-variants.{Taken, BadValue}
-use Rattle.clock.specs.declared.Limit.{Limit}
-use Rattle.clock.specs.declared.Limit.the-variants.{Milliseconds, BadValue as NoLimit}
 use Rattle.clock.specs.Clock.{outcomeResult}
-use Rattle.clock.specs.Limit.{limitResult}
 
 pub same-outcome : (a b : Outcome) → outcomeResult a ≡ outcomeResult b → a ≡ b
 same-outcome Taken Taken e = refl
 same-outcome BadValue BadValue e = refl
 same-outcome Taken BadValue e = let z : _≡_ {A = ℕ} 0 1 = cc in absurd (omega arith)
 same-outcome BadValue Taken e = let z : _≡_ {A = ℕ} 0 1 = cc in absurd (omega arith)
-
-pub same-limit : (a b : Limit) → limitResult a ≡ limitResult b → a ≡ b
-same-limit (Milliseconds x) (Milliseconds y) e = cc
-same-limit NoLimit NoLimit e = refl
-same-limit (Milliseconds x) NoLimit e = let z : _≡_ {A = ℕ} 0 1 = cc in absurd (omega arith)
-same-limit NoLimit (Milliseconds y) e = let z : _≡_ {A = ℕ} 0 1 = cc in absurd (omega arith)

@@ -7,11 +7,11 @@ use Rattle.laws.specs.Pick.{pick}
 use Rattle.laws.specs.Result.{Result, ok, refused}
 use Rattle.refusal.specs.Number.{refusalNumber}
 use Rattle.refusal.specs.declared.Refusal.the-variants as refusal
+use Rattle.floats.specs.Arithmetic.{_⊕_, _⊗_, _⊘_, whole, 0·75, 0·25, 0·875, 0·125, within, distance}
 use Rattle.clock.specs.declared.Clock.{Clock}
 use Rattle.clock.specs.declared.Outcome.{Outcome}
 use Rattle.clock.specs.declared.Outcome.the-variants.{Taken, BadValue}
 use Rattle.clock.specs.declared.Update.{Update}
-use Rattle.clock.specs.Arithmetic.{_⊕_, _⊗_, _⊘_, whole, 0·75, 0·25, 0·875, 0·125, within, distance}
 
 -- no sample has come
 unfoldable pub newClock : Clock

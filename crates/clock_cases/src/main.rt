@@ -1,9 +1,10 @@
 // Runs the ping clock on case 7 and at the ends of each range, and writes a line for each answer.
 use clock::Clock;
-use clock::Limit;
 use clock::Outcome;
-use clock::Setting;
 use libc::STDOUT_FILENO;
+use ping_limit::Limit;
+use ping_limit::Setting;
+use ping_limit::limit_of;
 
 fn text(bytes: &[u8]) {
     io::write_all(STDOUT_FILENO, bytes);
@@ -62,7 +63,7 @@ fn write_clock(clock: Clock) {
 
 // Passes a clock to the sampler, writes the answer and the clock afterwards, and returns that clock.
 fn sample(clock: Clock, r: u32) -> Clock {
-    let update = clock::with_sample(clock, r);
+    let update = sampler::with_sample(clock, r);
     let outcome = update.outcome;
     let after = update.clock;
     write_clock(clock);
@@ -93,7 +94,7 @@ fn fixed(clock: Clock, x: f64) {
     write_clock(clock);
     text(b", fixed ");
     write_number(x);
-    write_limit(clock.limit(Setting::Fixed { limit: x }));
+    write_limit(limit_of(clock, Setting::Fixed { limit: x }));
 }
 
 // Writes the limit of a clock under a measured setting.
@@ -103,7 +104,7 @@ fn measured(clock: Clock, floor: f64, ceiling: f64) {
     write_number(floor);
     text(b" to ");
     write_number(ceiling);
-    write_limit(clock.limit(Setting::Measured { floor, ceiling }));
+    write_limit(limit_of(clock, Setting::Measured { floor, ceiling }));
 }
 
 fn sampled(smoothed: f64, deviation: f64) -> Clock {

@@ -1,4 +1,2 @@
--- What several proofs of a connection's parts share, and the laws that callers cite.
-pub mod Checks
-pub mod Sessions
+-- The laws of a table that several crates cite.
 pub mod Tables

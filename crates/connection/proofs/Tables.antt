@@ -1,32 +1,10 @@
--- A table of sessions, element by element: the test of what is left, a map over the first ones, and a read past the end.
+-- A table, element by element: a map over the first ones, and a read past the end.
 use mathlib.Core.Path.{_≡_, refl, sym, ap, _∙_}
-use mathlib.Core.Bool.{Bool, true, false, _&&_}
 use mathlib.Core.List.{List, [], _∷_, map}
 use Prim.Native.Nat.{ℕ, zero, suc, _+_, _<_, _≤_}
 use native.Mathlib.Numerals.{add-one}
 use native.Mathlib.Nat.{not-suc-le-zero, le-of-suc-le-suc}
-use lib.ListN.{length, getD, set, drop, drop-of-length-le}
-use lib.Seq.{drop-cons}
-use Rattle.wire.specs.declared.Role.{Role}
-use Rattle.protocol.specs.declared.Session.{Session}
-use Rattle.protocol.specs.Session.{blank}
-use Rattle.protocol.specs.Connection.{sessionFormed, allFormed}
-
--- what is left of the table decides: one step by the test of its first session, and the end
-module _ (r : Role) (up : Bool) (l : List Session) (i : ℕ) where
-  all-step : i < length l → allFormed r up (drop i l) ≡ (sessionFormed r up (getD l i blank) && allFormed r up (drop (i + 1) l))
-  unfolding allFormed
-  all-step h = rw (add-one, drop-cons l i blank)
-
-  pub all-yes : i < length l → sessionFormed r up (getD l i blank) ≡ true → allFormed r up (drop (i + 1) l) ≡ allFormed r up (drop i l)
-  all-yes h e = sym (all-step h ∙ ap (λ (b : Bool). b && allFormed r up (drop (i + 1) l)) e)
-
-  pub all-no : i < length l → sessionFormed r up (getD l i blank) ≡ false → false ≡ allFormed r up (drop i l)
-  all-no h e = sym (all-step h ∙ ap (λ (b : Bool). b && allFormed r up (drop (i + 1) l)) e)
-
-  pub all-end : length l ≤ i → allFormed r up (drop i l) ≡ true
-  unfolding allFormed
-  all-end h = rw (drop-of-length-le l h)
+use lib.ListN.{length, getD, set}
 
 -- the first n elements mapped, the rest as they were: what a loop that maps in place holds
 module _ {A : Type 0} (f : A → A) where

@@ -1,3 +1,2 @@
--- The definitions of the checks that calls share, and of a connection with one part set.
-pub mod Gate
+-- The definitions of a connection with one part set.
 pub mod Table

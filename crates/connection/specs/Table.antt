@@ -1,13 +1,10 @@
--- A connection with one part set, and the causes of its end.
+-- A connection with one part set.
 use Prim.Native.Nat.{ℕ}
 use lib.ListN.{set}
 use Rattle.protocol.specs.declared.Session.{Session}
 use Rattle.protocol.specs.declared.Stage.{Stage}
 use Rattle.protocol.specs.declared.Ping.{Ping}
 use Rattle.protocol.specs.declared.Connection.{Connection}
-use Rattle.protocol.specs.Connection as rule
-use Rattle.connection.specs.declared.Cause.{Cause}
-use Rattle.connection.specs.declared.Cause.the-variants as cause
 
 abbrev pub withSession : Connection → ℕ → Session → Connection
 withSession c n x =
@@ -18,9 +15,3 @@ withStage c s = record { sessions = c .sessions; stage = s; over = c .over; own 
 
 abbrev pub withPing : Connection → Ping → Connection
 withPing c p = record { sessions = c .sessions; stage = c .stage; over = c .over; own = c .own; last = c .last; ping = p }
-
-abbrev pub causeAs : Cause → rule.Cause
-causeAs cause.ShutdownReceived = rule.shutdown-received
-causeAs cause.ErrorReceived = rule.error-received
-causeAs cause.OwnShutdown = rule.own-shutdown
-causeAs cause.LineLost = rule.line-lost

@@ -214,7 +214,7 @@ AsksExactly s queue log =
     (a c : List Entry) (e : Entry) → log ≡ a ++ (e ∷ c) → isLocal (e .call) ≡ true
     → e .answer ≡ localAnswer s queue (observed s (askedOf (e .call)) a) (e .call)
 
--- before they search or read, turn and receive refuse by their own checks, and nothing else happens to them there
+-- where the checks before its search or its reading refuse a turn or a receive, the answer is the first of them
 abbrev pub GatesExactly : Setup → ℕ → List Entry → Type 0
 GatesExactly s queue log =
     (a c : List Entry) (e : Entry) → log ≡ a ++ (e ∷ c) → e .answer ≡ gateAnswer s queue (observed s 0 a .line) (e .call) (e .answer)

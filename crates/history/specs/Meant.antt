@@ -134,7 +134,7 @@ isViolation (ok r) = false
 isViolation (refused n) = false
 isViolation (violation n) = true
 
--- our header goes at a client's start, or where a server has the far header or finds it bad
+-- answers with which our header may go: a client's call that reports nothing, a server that has the far header or finds it bad
 abbrev pub greets : Role → Result Report → Bool
 greets r (ok done) = isClient r
 greets r (ok (served n)) = false

@@ -4,15 +4,16 @@
 // message is looked up in the published tables, its place is the sum of the lengths before it, and none of the lines is
 // copied from a run.
 use capture::FIRST_PLACE;
-use capture::Next;
 use libc::STDERR_FILENO;
 use libc::STDIN_FILENO;
 use libc::STDOUT_FILENO;
+use message_text::with_message;
+use places::Next;
 use refusal::Refusal;
 use text::Line;
 use wire::Message;
 use wire::Role;
-use wire_read::ReadHeader;
+use wire_header::ReadHeader;
 
 // Whose direction the argument names.
 enum Sender {
@@ -54,7 +55,7 @@ fn at(place: usize) -> Line {
 
 // A line of a message, after which reading goes on.
 fn put_message(place: usize, m: Message) -> bool {
-    put(at(place).text(b" ").message(m).text(b"\n"));
+    put(with_message(at(place).text(b" "), m).text(b"\n"));
     true
 }
 
@@ -70,7 +71,7 @@ fn put_refusal(place: usize, number: u8) -> bool {
 
 // The connection header, by its number; nothing else depends on it.
 fn put_header(capture: &[u8]) {
-    match wire_read::read_connection_header(capture) {
+    match wire_header::read_connection_header(capture) {
         ReadHeader::Number(n) => put(at(0).text(b" header ").number(n as u64).text(b"\n")),
         ReadHeader::Incomplete => {
             put_refusal(0, Refusal::Incomplete.number());

@@ -19,9 +19,9 @@ use Rattle.protocol.specs.Connection.{shutdown-received, error-received, at, ro
 use Rattle.protocol.specs.Judge.{Report, message, Out, sent, Effect, accept, unchanged, with-ping, with-session, breach, commit, matches, judgeScope}
 use Rattle.session.specs.declared.Taken.{Taken}
 use Rattle.session.specs.Step.{sentAs}
-use Rattle.receipts.specs.declared.Receipt.{Receipt}
-use Rattle.receipts.specs.declared.Receipt.the-variants as receipt
-use Rattle.receipts.specs.Receipt.{receiptAs, toReceipt}
+use Rattle.arrivals.specs.declared.Receipt.{Receipt}
+use Rattle.arrivals.specs.declared.Receipt.the-variants as receipt
+use Rattle.arrivals.specs.Receipt.{receiptAs, toReceipt}
 use Rattle.connection.specs.Table.{withSession, withPing}
 use lib.Seq.{set-getD}
 use Rattle.results.proofs.Calls.{sets-ping, sets-end}

@@ -10,7 +10,7 @@ use Rattle.protocol.specs.Receipt.{Taken}
 use Rattle.protocol.specs.Connection.{ended}
 use Rattle.protocol.specs.Judge.{Report, message, Out, opening, sent, Decision, refuse, violate, accept, with-session, breach, commit}
 use Rattle.protocol.specs.Result.{answerAs}
-use Rattle.receipts.specs.Receipt.{receivedAs}
+use Rattle.arrivals.specs.Receipt.{receivedAs}
 use Rattle.outgoing.specs.Outgoing.{outsAs}
 use Rattle.judge.specs.declared.Reply.{Reply}
 use Rattle.judge.specs.declared.Reply.the-variants as reply

@@ -1,10 +1,10 @@
 // Whether a message concerns the connection as a whole or one of its sessions.
-use receipts::Received;
+use arrivals::Received;
 use wire::Message;
-use wire::effective_increment;
+use wire_amounts::effective_increment;
 ghost use mathlib.Core.Path.{_≡_};
 ghost use Rattle.protocol.specs.Message.{data-of, scope as Message·scope};
-ghost use Rattle.receipts.specs.Receipt.{receivedAs};
+ghost use Rattle.arrivals.specs.Receipt.{receivedAs};
 ghost use Rattle.judge.specs.Verdict.{scopeAs};
 
 // The connection as a whole, or a session with its number and what it receives.

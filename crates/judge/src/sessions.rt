@@ -2,6 +2,8 @@
 use crate::Judged;
 use crate::verdicts::taken;
 use crate::verdicts::violated;
+use arrivals::Receipt;
+use arrivals::Received;
 use connection::far_start;
 use connection::own_start;
 use connection::role_of;
@@ -9,13 +11,11 @@ use connection::session_at;
 use connection::with_session;
 use outgoing::of_session;
 use protocol::Connection;
-use receipts::Receipt;
-use receipts::Received;
 use wire::Message;
 ghost use mathlib.Core.Path.{_≡_};
 ghost use Rattle.protocol.specs.Message.{of-session};
 ghost use Rattle.protocol.specs.Judge.{judgeScope};
-ghost use Rattle.receipts.specs.Receipt.{receivedAs, receiptAs};
+ghost use Rattle.arrivals.specs.Receipt.{receivedAs, receiptAs};
 ghost use Rattle.judge.specs.Verdict.{verdictAs, verdict, judgedBy};
 
 // The step of a session at a message received, as what the receive comes to.

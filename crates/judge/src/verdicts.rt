@@ -1,8 +1,8 @@
 // What a receive comes to: refused, a violation, or a message taken.
 use crate::Judged;
 use crate::Reply;
-use connection::Cause;
-use connection::ended;
+use ending::Cause;
+use ending::ended;
 use outgoing::Outgoing;
 use outgoing::OwnMessage;
 use protocol::Answer;

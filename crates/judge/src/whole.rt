@@ -2,9 +2,9 @@
 use crate::Judged;
 use crate::verdicts::taken;
 use crate::verdicts::violated;
-use connection::Cause;
-use connection::ended;
 use connection::with_ping;
+use ending::Cause;
+use ending::ended;
 use outgoing::Outgoing;
 use outgoing::OwnMessage;
 use protocol::Connection;

@@ -1,2 +1,2 @@
--- The definitions of what a message received comes to.
-pub mod Receipt
+-- The definition of where a message leaves the side that sends it.
+pub mod Move

@@ -1,10 +1,10 @@
 // A message received for a session: an open Data, or one that the far side may send.
-use crate::Receipt;
-use crate::Received;
-use crate::arrivals::arrive;
-use crate::arrivals::taken;
 use crate::moves::Move;
 use crate::moves::follow;
+use arrivals::Receipt;
+use arrivals::Received;
+use arrivals::arrive;
+use arrivals::taken;
 use protocol::Outcome;
 use protocol::Session;
 use protocol::Side;
@@ -19,7 +19,7 @@ ghost use mathlib.Core.Bool.{not};
 ghost use Rattle.ration.specs.Ration.{allows};
 ghost use Rattle.protocol.specs.Plan.{check};
 ghost use Rattle.protocol.specs.Receipt.{quietly, other as Receipt·other, acceptable as Receipt·acceptable, accepted as Receipt·accepted, receipt};
-ghost use Rattle.receipts.specs.Receipt.{receivedAs, receiptAs, toReceipt};
+ghost use Rattle.arrivals.specs.Receipt.{receivedAs, receiptAs, toReceipt};
 
 // A message other than an open Data, which an idle or opening number does not take.
 fn other(role: Role, x: Session, m: Received, sides: Sides) -> Receipt

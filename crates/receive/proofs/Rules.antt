@@ -9,9 +9,9 @@ use Rattle.laws.specs.Result.{Result, ok}
 use Rattle.refusal.specs.declared.Refusal.{Refusal}
 use Rattle.refusal.specs.Number.{refusalNumber}
 use Rattle.wire.specs.declared.Role.{Role}
-use Rattle.wire_read.specs.declared.ReadHeader.{ReadHeader}
-use Rattle.wire_read.specs.declared.ReadHeader.the-variants as read-header
-use Rattle.wire_read.specs.Answer.{headerReadAs}
+use Rattle.wire_header.specs.declared.ReadHeader.{ReadHeader}
+use Rattle.wire_header.specs.declared.ReadHeader.the-variants as read-header
+use Rattle.wire_header.specs.Answer.{headerReadAs}
 use Rattle.protocol.specs.declared.Stage.{Stage}
 use Rattle.protocol.specs.declared.Stage.the-variants as stage
 use Rattle.protocol.specs.declared.Connection.{Connection}
@@ -19,9 +19,9 @@ use Rattle.protocol.specs.Plan.{Plan, stop, check, take, settle}
 use Rattle.protocol.specs.Judge.{header, Out, Decision, refuse, violate, accept}
 use Rattle.protocol.specs.Call.{answering, headerTaken, reading, receiveGate, receiveRule}
 use Rattle.protocol.specs.Result.{Given, given, bytesOfAll, inRoom, receiveCall}
-use Rattle.connection.specs.declared.Gate.{Gate}
-use Rattle.connection.specs.declared.Gate.the-variants as gate
-use Rattle.connection.specs.Gate.{gateAs, toGate, behind}
+use Rattle.gates.specs.declared.Gate.{Gate}
+use Rattle.gates.specs.declared.Gate.the-variants as gate
+use Rattle.gates.specs.Gate.{gateAs, toGate, behind}
 use Rattle.connection.specs.Table.{withStage}
 use Rattle.results.proofs.Calls.{next-check, refusing-in, sets-stage}
 use Rattle.judge.specs.Verdict.{Verdict, verdict}

@@ -2,9 +2,9 @@
 mod readings;
 mod replies;
 
-use connection::Gate;
-use connection::further;
-use connection::is_running;
+use gates::Gate;
+use gates::further;
+use gates::is_running;
 use protocol::Called;
 use protocol::Connection;
 use protocol::Stage;
@@ -16,7 +16,7 @@ use wire::is_client;
 ghost use mathlib.Core.Path.{_≡_};
 ghost use Rattle.protocol.specs.Call.{unstarted as Call·unstarted, receiveGate};
 ghost use Rattle.protocol.specs.Result.{calledAs, receiveCall};
-ghost use Rattle.connection.specs.Gate.{gateAs, toGate};
+ghost use Rattle.gates.specs.Gate.{gateAs, toGate};
 
 // Whether it is a client that has not sent its header.
 fn unstarted(stage: Stage) -> bool

@@ -11,13 +11,14 @@ use protocol::Connection;
 use protocol::Stage;
 use refusal::Refusal;
 use wire::Role;
+use wire_header::ReadHeader;
+use wire_header::read_connection_header;
 use wire_read::Read;
-use wire_read::ReadHeader;
-use wire_read::read_connection_header;
 use wire_read::read_message;
 ghost use mathlib.Core.Path.{_≡_};
 ghost use Rattle.protocol.specs.Call.{otherEnd, answering as Call·answering, headerTaken, messageTaken, reading};
-ghost use Rattle.wire_read.specs.Answer.{readAs, headerReadAs};
+ghost use Rattle.wire_header.specs.Answer.{headerReadAs};
+ghost use Rattle.wire_read.specs.Answer.{readAs};
 ghost use Rattle.judge.specs.Verdict.{repliesAs, verdictAs, verdict};
 
 // A good first header makes a server write its own.

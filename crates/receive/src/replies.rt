@@ -6,7 +6,7 @@ use outgoing::OwnMessage;
 use outgoing::write;
 use protocol::Answer;
 use protocol::Called;
-use wire::body_length;
+use wire_amounts::body_length;
 ghost use mathlib.Core.Path.{_≡_};
 ghost use mathlib.Core.List.{[]};
 ghost use Prim.Native.Nat.{_≤_};

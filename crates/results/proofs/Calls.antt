@@ -23,11 +23,11 @@ use Rattle.protocol.specs.Judge.{Report, done, Out, opening, sent, Effect, refu
 use Rattle.protocol.specs.Call.{running, upAndRunning, roomFor}
 use Rattle.protocol.specs.Result.{Given, given, bytesOfAll, over, inRoom, decided}
 use Rattle.session.specs.Step.{toAsked}
-use Rattle.connection.specs.declared.Gate.{Gate}
-use Rattle.connection.specs.declared.Gate.the-variants as gate
-use Rattle.connection.specs.Gate.{gateAs, toGate, followedBy, behind}
+use Rattle.gates.specs.declared.Gate.{Gate}
+use Rattle.gates.specs.declared.Gate.the-variants as gate
+use Rattle.gates.specs.Gate.{gateAs, toGate, followedBy, behind}
 use Rattle.connection.specs.Table.{withStage, withPing}
-use Rattle.connection.proofs.Checks.{gated}
+use Rattle.gates.proofs.Checks.{gated}
 use Rattle.outgoing.specs.Outgoing.{written}
 use Rattle.outgoing.proofs.Rooms.{fits, one-message}
 use Rattle.results.specs.Asking.{decision}

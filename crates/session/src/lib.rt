@@ -1,20 +1,8 @@
-// One session's steps: what each local call does to it. No table of sessions is here.
-mod aborting;
-mod asks;
-mod opening;
+// One session: what a step of it answers, and the parts that the steps share. No table of sessions is here.
 pub mod parts;
-mod turns;
 
-pub use aborting::abort;
-pub use asks::close;
-pub use asks::finish;
-pub use asks::grant;
-pub use asks::put;
-pub use opening::open_session;
 use protocol::Session;
 use refusal::Refusal;
-pub use turns::ready;
-pub use turns::turn;
 
 // How many bytes of the queue each session number has.
 pub const SLOT_SIZE: u16 = 256;

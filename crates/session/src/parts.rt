@@ -1,14 +1,21 @@
-// The ways in which a session is rebuilt, and the rations and sides that go into it.
-use protocol::Before;
+// The ways in which a session is rebuilt, what goes into it, and the answer of a step that is taken.
+use crate::Asked;
+use crate::SLOT_SIZE;
+use crate::Sent;
+use crate::Taken;
 use protocol::Outcome;
 use protocol::Session;
 use protocol::Side;
 use protocol::Sides;
 use ration::Ration;
 ghost use mathlib.Core.Path.{_≡_};
+ghost use mathlib.Core.Bool.{false};
+ghost use Prim.Native.Nat.{_-_};
+ghost use Rattle.laws.specs.Result.{ok};
+ghost use Rattle.protocol.specs.Slot.{slotSize};
+ghost use Rattle.session.specs.Step.{sentAs, askedAs};
 ghost use Rattle.ration.specs.Ration.{minus};
-ghost use Rattle.protocol.specs.Session.{becomes as Session·becomes, sided as Session·sided, dropped as Session·dropped, settled as Session·settled, received, afterData};
-ghost use Rattle.protocol.specs.Receipt.{closed as Receipt·closed};
+ghost use Rattle.protocol.specs.Session.{becomes as Session·becomes, sided as Session·sided, dropped as Session·dropped, settled as Session·settled, afterData};
 ghost use Rattle.protocol.specs.Ask.{sends as Ask·sends};
 
 // Where Data leaves the side that sends it.
@@ -128,4 +135,26 @@ pub fn rationed(x: Session, outbound: Ration, inbound: Ration) -> Session
         finish: x.finish,
         outcome,
     }
+}
+
+// The call is taken.
+pub fn taken(x: Session, sent: Sent) -> Asked
+    ensures { λ r. ⌜ askedAs r ≡ ok (record { session = x; sent = sentAs sent; late = false }) ⌝ }
+{
+    Asked::Taken(Taken {
+        session: x,
+        sent,
+        late: false,
+    })
+}
+
+// How many bytes more the slot of a session takes; the constant is the size that the rules use.
+pub fn space(waiting: u16) -> u16
+    ensures { λ r. ⌜ r ≡ slotSize - waiting ⌝ }
+    ensures { λ _. do ⌜ (← ⟦SLOT_SIZE⟧ .entry) ≡ slotSize ⌝ }
+{
+    if waiting <= SLOT_SIZE {
+        return SLOT_SIZE - waiting;
+    }
+    0
 }

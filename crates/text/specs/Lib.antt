@@ -1,3 +1,2 @@
--- The definitions of a line of text and of a message's words.
+-- The definitions of a line of text.
 pub mod Line
-pub mod Message

@@ -2,6 +2,7 @@
 use Prim.Native.Nat.{ℕ, zero, suc, _+_, _/_}
 use Prim.Native.Char.{code}
 use Prim.Native.String.{String, [], _∷_}
+use mathlib.Core.Bool.{Bool, cond}
 use mathlib.Core.List as list
 use mathlib.Core.List.{List, _++_}
 use lib.Dec.{ltb}
@@ -23,6 +24,14 @@ places (suc k) n = pick (ltb n 10) 1 (places k (n / 10) + 1)
 -- a number in decimal: a 64-bit number has at most 20 digits
 unfoldable pub decimal : ℕ → List ℕ
 decimal n = digits 10 (places 19 n) n
+
+-- an item's name and value
+abbrev pub item : String → ℕ → List ℕ
+item name value = codes name ++ decimal value
+
+-- a flag's name, where it is set
+abbrev pub flag : String → Bool → List ℕ
+flag name set = cond set (codes name) list.[]
 
 -- what stands behind a line's end is no text and the program's choice; a length above 128 is a full line's
 abbrev pub lineText : Line → List ℕ

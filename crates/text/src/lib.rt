@@ -1,5 +1,4 @@
-// A line of text that is put together piece by piece, and the words of a message.
-mod messages;
+// A line of text that is put together piece by piece: words, numbers, items and flags.
 mod pieces;
 
 pub use pieces::first;

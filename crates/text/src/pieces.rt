@@ -2,7 +2,8 @@
 use crate::Line;
 ghost use mathlib.Core.Path.{_≡_};
 ghost use Prim.Native.Nat.{_+_, _≤_, min};
-ghost use mathlib.Core.List.{[]};
+ghost use mathlib.Core.Bool.{cond};
+ghost use mathlib.Core.List.{[], _++_};
 ghost use lib.ListN.{length, take};
 ghost use lib.Seq.{paste};
 ghost use Rattle.text.specs.Line.{decimal, lineText, added};
@@ -65,5 +66,22 @@ impl Line {
         let mut digits = [0u8; 20];
         let k = io::decimal(n, &mut digits);
         self.text(&digits[..k])
+    }
+
+    // The line with the name and the value of an item behind its end.
+    pub fn item(self, name: &[u8], value: u64) -> Line
+        ensures { λ r. ⌜ lineText r ≡ added (lineText self) (now (name .entry) ++ decimal value) ⌝ }
+    {
+        self.text(name).number(value)
+    }
+
+    // The line with the name of a flag behind its end, where the flag is set.
+    pub fn flag(self, name: &[u8], set: bool) -> Line
+        ensures { λ r. ⌜ lineText r ≡ added (lineText self) (cond set (now (name .entry)) []) ⌝ }
+    {
+        if set {
+            return self.text(name);
+        }
+        self.text(b"")
     }
 }

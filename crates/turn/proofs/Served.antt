@@ -30,9 +30,9 @@ use Rattle.session.specs.declared.Taken.{Taken}
 use Rattle.session.specs.declared.Asked.{Asked}
 use Rattle.session.specs.declared.Asked.the-variants as asked
 use Rattle.session.specs.Step.{sentAs, takenAs, askedAs}
-use Rattle.connection.specs.declared.Gate.{Gate}
-use Rattle.connection.specs.declared.Gate.the-variants as gate
-use Rattle.connection.specs.Gate.{gateAs, toGate}
+use Rattle.gates.specs.declared.Gate.{Gate}
+use Rattle.gates.specs.declared.Gate.the-variants as gate
+use Rattle.gates.specs.Gate.{gateAs, toGate}
 use Rattle.outgoing.specs.Outgoing.{written}
 use Rattle.outgoing.proofs.Rooms.{fits, one-with}
 use Rattle.slots.specs.Slots.{takenFrom}

@@ -19,10 +19,10 @@ use Rattle.protocol.specs.Judge.{served, refuse, accept, with-session}
 use Rattle.protocol.specs.Call.{upAndRunning, roomFor, queueOf, nextReady, serving, turnRule}
 use Rattle.protocol.specs.Result.{Given, given, decided, turnCall}
 use Rattle.protocol.proofs.Turns.{turn-stops}
-use Rattle.connection.specs.declared.Gate.{Gate}
-use Rattle.connection.specs.declared.Gate.the-variants as gate
-use Rattle.connection.specs.Gate.{gateAs, toGate}
-use Rattle.connection.proofs.Sessions.{waiting-fits}
+use Rattle.gates.specs.declared.Gate.{Gate}
+use Rattle.gates.specs.declared.Gate.the-variants as gate
+use Rattle.gates.specs.Gate.{gateAs, toGate}
+use Rattle.formed.proofs.Sessions.{waiting-fits}
 use Rattle.results.proofs.Calls.{passed, stopped}
 use Rattle.turn.specs.Turned.{turnGives}
 

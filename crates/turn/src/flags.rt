@@ -1,6 +1,6 @@
 // The ready flags: one for each session number.
 use protocol::Session;
-use session::ready;
+use step_turn::ready;
 ghost use mathlib.Core.Path.{_≡_};
 ghost use mathlib.Core.List.{map};
 ghost use Rattle.turn.specs.Ready.{flagOf};

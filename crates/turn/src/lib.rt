@@ -2,10 +2,10 @@
 mod flags;
 mod serving;
 
-use connection::Gate;
-use connection::further;
-use connection::is_up;
 use flags::ready_flags;
+use gates::Gate;
+use gates::further;
+use gates::is_up;
 use protocol::Called;
 use protocol::Connection;
 use refusal::Refusal;
@@ -20,7 +20,7 @@ ghost use Rattle.protocol.specs.Slot.{turnRoom};
 ghost use Rattle.protocol.specs.Plan.{take};
 ghost use Rattle.protocol.specs.Call.{upAndRunning, roomFor, queueOf};
 ghost use Rattle.protocol.specs.Result.{calledAs, turnCall};
-ghost use Rattle.connection.specs.Gate.{gateAs, toGate};
+ghost use Rattle.gates.specs.Gate.{gateAs, toGate};
 
 // The checks before the search.
 fn to_turn(c: Connection, queue: usize, room: usize) -> Gate

@@ -91,6 +91,6 @@ pub(crate) fn serve(c: Connection, n: u8, queue: &mut [u8], room: &mut [u8]) -> 
     ensures { λ r. ⌜ (calledAs r, now (queue .exit), now (room .exit)) ≡ turnGives c (now (queue .entry)) (now (room .entry)) (decided (serving c n)) ⌝ }
 {
     let x = session_at(c, n);
-    let asked = session::turn(own_start(c), far_start(c), x);
+    let asked = step_turn::turn(own_start(c), far_start(c), x);
     conclude_turn(c, n, asked, x.waiting, queue, room)
 }

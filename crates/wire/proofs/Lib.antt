@@ -1,7 +1,6 @@
 -- The laws of the wire format.
 pub mod FirstBytes
 pub mod Tables
-pub mod Flags
 pub mod Reading
 pub mod Writing
 pub mod Inverse

@@ -1,6 +1,6 @@
 -- The writers' definitions, one law for each way through their checks; callers cite these.
 use mathlib.Core.Path.{_≡_, ap, sym, _∙_}
-use mathlib.Core.Bool.{true, false, _&&_}
+use mathlib.Core.Bool.{Bool, true, false, _&&_}
 use mathlib.Core.List.{List, [], _∷_, _++_}
 use Prim.Native.Nat.{ℕ, _+_, _/_, _%_, _≤_, _<_}
 use lib.ListN.{length, drop}
@@ -10,6 +10,7 @@ use Rattle.laws.specs.Result.{ok, refused}
 use Rattle.laws.proofs.Pick.{yes, no}
 use Rattle.laws.proofs.Tests.{and-first, and-second}
 use Rattle.wire.specs.declared.Role.{Role}
+use Rattle.wire.specs.declared.Kind.{Kind}
 use Rattle.wire.specs.declared.Message.{Message}
 use Rattle.wire.specs.Message.{maySend, flagsAllowed, kindOfMessage, bodyLength, firstByte, secondByte, numberOf, shiftOf, header, writable, writeMessage}
 use Rattle.wire.specs.Connection.{connectionHeader, writeConnectionHeader}
@@ -40,6 +41,13 @@ writable-has from m len e =
       flags = and-second (A && B && C) D abcd;
       body = eqb-true _ _ (and-second (A && B && C && D) E e);
     }
+
+-- the checks of a message, each by what its part is
+pub writable-is : (from : Role) (m : Message) (len : ℕ) {s i n : ℕ} {k : Kind} {sender flags : Bool} → s ≡ shiftOf m → i ≡ secondByte m
+    → k ≡ kindOfMessage m → sender ≡ maySend from k → flags ≡ flagsAllowed from m → n ≡ bodyLength m
+    → (ltb s 8 && ltb i 128 && sender && flags && eqb n len) ≡ writable from m len
+unfolding writable
+writable-is from m len p q e a b r = rw (p, q, a, e, b, r)
 
 header-same : {a b n : ℕ} (m : Message) → a ≡ firstByte m → b ≡ secondByte m → n ≡ numberOf m → a ∷ b ∷ n / 256 ∷ n % 256 ∷ [] ≡ header m
 header-same m p q r = rw (p, q, r)

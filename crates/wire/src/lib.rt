@@ -1,12 +1,8 @@
 // The messages of the multiplexing protocol, and what holds of a message whatever reads or writes it.
-mod rules;
+mod roles;
 
-pub use rules::body_length;
-pub use rules::effective_increment;
-pub use rules::flags_allowed;
-pub use rules::is_client;
-pub use rules::is_server;
-pub use rules::may_send;
+pub use roles::is_client;
+pub use roles::is_server;
 
 // An end of the connection.
 pub enum Role {

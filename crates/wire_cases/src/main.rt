@@ -8,17 +8,7 @@ mod show;
 mod writes;
 
 fn main() {
-    reads::client();
-    reads::server();
-    reads::violations();
-    reads::senders();
-    reads::cut();
-    reads::long();
-    reads::connection();
-    writes::messages();
-    writes::refused();
-    writes::connection();
-    rations::starts();
-    rations::spends();
-    rations::grows();
+    reads::all();
+    writes::all();
+    rations::all();
 }

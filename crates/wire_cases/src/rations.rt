@@ -11,52 +11,60 @@ fn amount(r: Ration) {
     }
 }
 
+// A name and a ration.
+fn item(name: &[u8], r: Ration) {
+    show::text(name);
+    amount(r);
+}
+
 fn start(number: u16) {
-    show::text(b"header number ");
-    show::number(number as u64);
-    show::text(b" starts ");
-    amount(Ration::from_header(number));
-    show::text(b"\n");
+    show::item(b"header number ", number as u64);
+    item(b" starts ", Ration::from_header(number));
+    show::end();
+}
+
+fn spent(answer: Spent) {
+    match answer {
+        Spent::Left(left) => item(b": left ", left),
+        Spent::NotEnough => show::text(b": not enough"),
+    }
 }
 
 fn spend(r: Ration, n: u32) {
-    show::text(b"ration ");
-    amount(r);
-    show::text(b" spend ");
-    show::number(n as u64);
-    match r.spend(n) {
-        Spent::Left(left) => {
-            show::text(b": left ");
-            amount(left);
-        }
-        Spent::NotEnough => show::text(b": not enough"),
+    item(b"ration ", r);
+    show::item(b" spend ", n as u64);
+    spent(r.spend(n));
+    show::end();
+}
+
+fn grown(answer: Grown) {
+    match answer {
+        Grown::To(more) => item(b": now ", more),
+        Grown::PastLargest => show::text(b": past the largest"),
     }
-    show::text(b"\n");
+}
+
+fn granted(may: bool) {
+    if may {
+        show::text(b", may be granted\n");
+    } else {
+        show::text(b", may not be granted\n");
+    }
+}
+
+fn grow_by(r: Ration, n: u32) {
+    item(b"ration ", r);
+    show::item(b" grow ", n as u64);
+    grown(r.grow(n));
+    granted(r.grantable(n));
 }
 
 // A ration grown by an increment that is shifted.
 fn grow(r: Ration, shift: u8, increment: u16) {
-    let n = wire::effective_increment(shift, increment);
-    show::text(b"ration ");
-    amount(r);
-    show::text(b" grow ");
-    show::number(n as u64);
-    match r.grow(n) {
-        Grown::To(more) => {
-            show::text(b": now ");
-            amount(more);
-        }
-        Grown::PastLargest => show::text(b": past the largest"),
-    }
-    if r.grantable(n) {
-        show::text(b", may be granted");
-    } else {
-        show::text(b", may not be granted");
-    }
-    show::text(b"\n");
+    grow_by(r, wire_amounts::effective_increment(shift, increment));
 }
 
-pub(crate) fn starts() {
+fn starts() {
     start(0);
     start(1);
     start(4);
@@ -66,7 +74,7 @@ pub(crate) fn starts() {
 }
 
 // Numbers that differ when they are compared as text.
-pub(crate) fn spends() {
+fn spends() {
     spend(Ration::Finite(9216), 10240);
     spend(Ration::Finite(10240), 9216);
     spend(Ration::Finite(9216), 9216);
@@ -79,7 +87,7 @@ pub(crate) fn spends() {
     spend(Ration::Endless, 65535);
 }
 
-pub(crate) fn grows() {
+fn grows() {
     grow(Ration::Finite(2147483000), 0, 647);
     grow(Ration::Finite(2147483000), 0, 648);
     grow(Ration::Finite(0), 7, 65535);
@@ -87,4 +95,10 @@ pub(crate) fn grows() {
     grow(Ration::Finite(1073758208), 7, 65535);
     grow(Ration::Finite(10), 1, 3);
     grow(Ration::Endless, 0, 1);
+}
+
+pub(crate) fn all() {
+    starts();
+    spends();
+    grows();
 }

@@ -1,27 +1,36 @@
 // Byte strings through the reader.
 use crate::show;
+use wire::Message;
 use wire::Role;
+use wire_header::ReadHeader;
 use wire_read::Read;
-use wire_read::ReadHeader;
+
+// A message that was read, and how many bytes of the input it has.
+fn taken(m: Message) {
+    show::text(b": ok ");
+    show::message(m);
+    show::item(b" used ", 4 + (wire_amounts::body_length(m) as u64));
+}
+
+fn answer(answer: Read) {
+    match answer {
+        Read::Message(m) => taken(m),
+        Read::Incomplete => show::refused(10),
+        Read::Violated(v) => show::refused(v.number() as u64),
+    }
+}
 
 fn read(from: Role, input: &[u8]) {
     show::text(b"read ");
     show::role(from);
     show::bytes(input);
-    match wire_read::read_message(from, input) {
-        Read::Message(m) => {
-            show::text(b": ok ");
-            show::message(m);
-            show::text(b" used ");
-            show::number(4 + (wire::body_length(m) as u64));
-        }
-        Read::Incomplete => show::text(b": refused 10"),
-        Read::Violated(v) => {
-            show::text(b": refused ");
-            show::number(v.number() as u64);
-        }
-    }
-    show::text(b"\n");
+    answer(wire_read::read_message(from, input));
+    show::end();
+}
+
+// The four bytes of a header, with none behind them.
+fn bare(from: Role, a: u8, b: u8, c: u8, d: u8) {
+    read(from, &[a, b, c, d]);
 }
 
 // Puts the header of a Data message for session 5 at the start of a room.
@@ -41,95 +50,97 @@ fn read_data(high: u8, low: u8, n: usize) {
     read(Role::Client, text::first(&input, n));
 }
 
-fn header(input: &[u8]) {
-    show::text(b"header ");
-    show::bytes(input);
-    match wire_read::read_connection_header(input) {
-        ReadHeader::Number(n) => {
-            show::text(b": ok ");
-            show::number(n as u64);
-        }
-        ReadHeader::Incomplete => show::text(b": refused 10"),
-        ReadHeader::Violated(v) => {
-            show::text(b": refused ");
-            show::number(v.number() as u64);
-        }
+fn header_answer(answer: ReadHeader) {
+    match answer {
+        ReadHeader::Number(n) => show::item(b": ok ", n as u64),
+        ReadHeader::Incomplete => show::refused(10),
+        ReadHeader::Violated(v) => show::refused(v.number() as u64),
     }
-    show::text(b"\n");
+}
+
+fn header(input: &[u8]) {
+    show::part(b"header ", input);
+    header_answer(wire_header::read_connection_header(input));
+    show::end();
+}
+
+// A header that begins with the protocol's name.
+fn jmux(version: u8, high: u8, low: u8, last: u8) {
+    header(&[b'J', b'm', b'u', b'x', version, high, low, last]);
 }
 
 // Each type of message that a client may send.
-pub(crate) fn client() {
+fn client() {
     read(Role::Client, b"\x00\x00\x00\x02hi");
-    read(Role::Client, b"\x04\x00\x12\x34");
-    read(Role::Client, b"\x06\x00\xff\xff");
+    bare(Role::Client, 0x04, 0x00, 0x12, 0x34);
+    bare(Role::Client, 0x06, 0x00, 0xff, 0xff);
     read(Role::Client, b"\x08\x00\x00\x03bad");
-    read(Role::Client, b"\x10\x05\x01\x00");
-    read(Role::Client, b"\x1e\x7f\xff\xff");
-    read(Role::Client, b"\x20\x07\x00\x00");
-    read(Role::Client, b"\x40\x07\x00\x00");
+    bare(Role::Client, 0x10, 0x05, 0x01, 0x00);
+    bare(Role::Client, 0x1e, 0x7f, 0xff, 0xff);
+    bare(Role::Client, 0x20, 0x07, 0x00, 0x00);
+    bare(Role::Client, 0x40, 0x07, 0x00, 0x00);
     read(Role::Client, b"\x80\x05\x00\x01x");
     read(Role::Client, b"\x90\x05\x00\x03abc");
-    read(Role::Client, b"\x94\x05\x00\x00");
+    bare(Role::Client, 0x94, 0x05, 0x00, 0x00);
 }
 
 // Each type of message that a server may send.
-pub(crate) fn server() {
-    read(Role::Server, b"\x00\x00\x00\x00");
+fn server() {
+    bare(Role::Server, 0x00, 0x00, 0x00, 0x00);
     read(Role::Server, b"\x02\x00\x00\x03bye");
-    read(Role::Server, b"\x04\x00\x00\x00");
-    read(Role::Server, b"\x06\x00\x12\x34");
-    read(Role::Server, b"\x08\x00\x00\x00");
-    read(Role::Server, b"\x18\x00\x00\x01");
-    read(Role::Server, b"\x22\x07\x00\x00");
+    bare(Role::Server, 0x04, 0x00, 0x00, 0x00);
+    bare(Role::Server, 0x06, 0x00, 0x12, 0x34);
+    bare(Role::Server, 0x08, 0x00, 0x00, 0x00);
+    bare(Role::Server, 0x18, 0x00, 0x00, 0x01);
+    bare(Role::Server, 0x22, 0x07, 0x00, 0x00);
     read(Role::Server, b"\x20\x07\x00\x02no");
-    read(Role::Server, b"\x30\x07\x00\x00");
+    bare(Role::Server, 0x30, 0x07, 0x00, 0x00);
     read(Role::Server, b"\x8e\x7f\x00\x01z");
 }
 
 // First bytes of no type, and reserved bits that are set.
-pub(crate) fn violations() {
-    read(Role::Client, b"\x01\x00\x00\x00");
-    read(Role::Client, b"\x0a\x00\x00\x00");
-    read(Role::Server, b"\x24\x07\x00\x00");
-    read(Role::Server, b"\x32\x07\x00\x00");
-    read(Role::Client, b"\x91\x05\x00\x00");
-    read(Role::Client, b"\xa0\x05\x00\x00");
-    read(Role::Client, b"\xff\xff\xff\xff");
-    read(Role::Client, b"\x04\x80\x00\x00");
-    read(Role::Client, b"\x00\x01\x00\x00");
-    read(Role::Client, b"\x90\x85\x00\x00");
-    read(Role::Server, b"\x30\x07\x00\x01");
-    read(Role::Client, b"\x40\x07\x01\x00");
+fn violations() {
+    bare(Role::Client, 0x01, 0x00, 0x00, 0x00);
+    bare(Role::Client, 0x0a, 0x00, 0x00, 0x00);
+    bare(Role::Server, 0x24, 0x07, 0x00, 0x00);
+    bare(Role::Server, 0x32, 0x07, 0x00, 0x00);
+    bare(Role::Client, 0x91, 0x05, 0x00, 0x00);
+    bare(Role::Client, 0xa0, 0x05, 0x00, 0x00);
+    bare(Role::Client, 0xff, 0xff, 0xff, 0xff);
+    bare(Role::Client, 0x04, 0x80, 0x00, 0x00);
+    bare(Role::Client, 0x00, 0x01, 0x00, 0x00);
+    bare(Role::Client, 0x90, 0x85, 0x00, 0x00);
+    bare(Role::Server, 0x30, 0x07, 0x00, 0x01);
+    bare(Role::Client, 0x40, 0x07, 0x01, 0x00);
 }
 
 // Messages and flags of the other sender; the sender is judged before the flags, reserved bits before both.
-pub(crate) fn senders() {
-    read(Role::Client, b"\x02\x00\x00\x00");
-    read(Role::Client, b"\x30\x07\x00\x00");
-    read(Role::Server, b"\x40\x07\x00\x00");
-    read(Role::Client, b"\x22\x07\x00\x00");
-    read(Role::Server, b"\x90\x05\x00\x00");
-    read(Role::Client, b"\x8c\x05\x00\x00");
-    read(Role::Client, b"\x86\x05\x00\x00");
-    read(Role::Server, b"\x88\x05\x00\x00");
-    read(Role::Server, b"\x82\x05\x00\x00");
-    read(Role::Client, b"\x30\x87\x00\x00");
-    read(Role::Server, b"\x90\x85\x00\x00");
+fn senders() {
+    bare(Role::Client, 0x02, 0x00, 0x00, 0x00);
+    bare(Role::Client, 0x30, 0x07, 0x00, 0x00);
+    bare(Role::Server, 0x40, 0x07, 0x00, 0x00);
+    bare(Role::Client, 0x22, 0x07, 0x00, 0x00);
+    bare(Role::Server, 0x90, 0x05, 0x00, 0x00);
+    bare(Role::Client, 0x8c, 0x05, 0x00, 0x00);
+    bare(Role::Client, 0x86, 0x05, 0x00, 0x00);
+    bare(Role::Server, 0x88, 0x05, 0x00, 0x00);
+    bare(Role::Server, 0x82, 0x05, 0x00, 0x00);
+    bare(Role::Client, 0x30, 0x87, 0x00, 0x00);
+    bare(Role::Server, 0x90, 0x85, 0x00, 0x00);
 }
 
 // Messages that are not all there; what the header says of a violation comes first.
-pub(crate) fn cut() {
+fn cut() {
     read(Role::Client, b"");
     read(Role::Client, b"\x01\x00\x00");
     read(Role::Client, b"\x90\x05\x00\x03ab");
-    read(Role::Client, b"\x90\x05\x00\x03");
-    read(Role::Server, b"\x90\x05\x00\x03");
+    bare(Role::Client, 0x90, 0x05, 0x00, 0x03);
+    bare(Role::Server, 0x90, 0x05, 0x00, 0x03);
     read(Role::Client, b"\x04\x00\x12\x34\x06");
 }
 
 // Lengths of 1, 8000 and FFFF hex, whole and cut by a byte.
-pub(crate) fn long() {
+fn long() {
     read_data(0x00, 0x01, 5);
     read_data(0x80, 0x00, 32772);
     read_data(0x80, 0x00, 32771);
@@ -138,13 +149,23 @@ pub(crate) fn long() {
     read_data(0xff, 0xff, 65600);
 }
 
-pub(crate) fn connection() {
-    header(b"Jmux\x01\x00\x04\x00");
-    header(b"Jmux\x01\x00\x00\x00");
+fn connection() {
+    jmux(0x01, 0x00, 0x04, 0x00);
+    jmux(0x01, 0x00, 0x00, 0x00);
     header(b"Jmux\x01\xff\xff\x00\x90");
-    header(b"Jmux\x02\x00\x04\x00");
-    header(b"Jmux\x01\x00\x04\x01");
+    jmux(0x02, 0x00, 0x04, 0x00);
+    jmux(0x01, 0x00, 0x04, 0x01);
     header(b"jmux\x01\x00\x04\x00");
     header(b"Jmux\x01\x00\x04");
     header(b"junk");
+}
+
+pub(crate) fn all() {
+    client();
+    server();
+    violations();
+    senders();
+    cut();
+    long();
+    connection();
 }

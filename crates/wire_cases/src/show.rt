@@ -1,4 +1,5 @@
 // A message, a role and bytes as text on standard output.
+use message_text::with_message;
 use text::Line;
 use text::first;
 use wire::Message;
@@ -12,6 +13,21 @@ pub(crate) fn number(n: u64) {
     io::print_decimal(1, n);
 }
 
+// A name and its value.
+pub(crate) fn item(name: &[u8], value: u64) {
+    text(name);
+    number(value);
+}
+
+pub(crate) fn refused(n: u64) {
+    item(b": refused ", n);
+}
+
+// The end of a line.
+pub(crate) fn end() {
+    text(b"\n");
+}
+
 pub(crate) fn role(from: Role) {
     match from {
         Role::Client => text(b"client "),
@@ -19,17 +35,26 @@ pub(crate) fn role(from: Role) {
     }
 }
 
+// The first four bytes and the count.
+fn start(s: &[u8]) {
+    digits(first(s, 4));
+    item(b"..(", s.len() as u64);
+    text(b" bytes)");
+}
+
 // Each byte as two hexadecimal digits; of more than 16 bytes the first four and the count.
 pub(crate) fn bytes(s: &[u8]) {
-    let n = s.len();
-    if 16 < n {
-        digits(first(s, 4));
-        text(b"..(");
-        number(n as u64);
-        text(b" bytes)");
+    if 16 < s.len() {
+        start(s);
     } else {
         digits(s);
     }
+}
+
+// A name and bytes.
+pub(crate) fn part(name: &[u8], s: &[u8]) {
+    text(name);
+    bytes(s);
 }
 
 fn byte(b: u8) {
@@ -45,7 +70,7 @@ fn digits(s: &[u8]) {
 }
 
 pub(crate) fn message(m: Message) {
-    let line = Line::new().message(m);
+    let line = with_message(Line::new(), m);
     let bytes = line.bytes;
     let n = line.length;
     text(first(&bytes, n));

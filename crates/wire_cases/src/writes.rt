@@ -2,45 +2,51 @@
 use crate::show;
 use wire::Message;
 use wire::Role;
-use wire_write::Written;
+use wire_header::Written;
 
 // What was written, and whether the byte after it is still the one that was lent.
+fn wrote(n: usize, room: &[u8]) {
+    if n <= room.len() {
+        show::part(b": wrote ", text::first(room, n));
+        show::part(b" then ", &room[n..]);
+    }
+}
+
+fn refused(n: u64, room: &[u8]) {
+    show::refused(n);
+    show::part(b" room ", room);
+}
+
 fn result(w: Written, room: &[u8]) {
     match w {
-        Written::Wrote(n) => {
-            if n <= room.len() {
-                show::text(b": wrote ");
-                show::bytes(text::first(room, n));
-                show::text(b" then ");
-                show::bytes(&room[n..]);
-            }
-        }
-        Written::Refused(r) => {
-            show::text(b": refused ");
-            show::number(r.number() as u64);
-            show::text(b" room ");
-            show::bytes(room);
-        }
+        Written::Wrote(n) => wrote(n, room),
+        Written::Refused(r) => refused(r.number() as u64, room),
     }
-    show::text(b"\n");
+}
+
+fn write_to(room: &mut [u8], from: Role, m: Message, body: &[u8]) {
+    let w = wire_write::write_message(from, m, body, room);
+    show::role(from);
+    show::message(m);
+    result(w, room);
+    show::end();
 }
 
 fn write(from: Role, m: Message, body: &[u8]) {
     let mut room = [0xEEu8; 12];
-    let w = wire_write::write_message(from, m, body, &mut room);
     show::text(b"write ");
-    show::role(from);
-    show::message(m);
-    result(w, &room);
+    write_to(&mut room, from, m, body);
 }
 
 fn write_short(from: Role, m: Message, body: &[u8]) {
     let mut room = [0xEEu8; 6];
-    let w = wire_write::write_message(from, m, body, &mut room);
     show::text(b"write short ");
-    show::role(from);
-    show::message(m);
-    result(w, &room);
+    write_to(&mut room, from, m, body);
+}
+
+// A message with no bytes behind it.
+fn write_bare(from: Role, m: Message) {
+    write(from, m, b"");
 }
 
 fn data(open: bool, close: bool, eof: bool, ack: bool, session: u8, length: u16) -> Message {
@@ -70,64 +76,85 @@ fn increment(shift: u8, session: u8, amount: u16) -> Message {
     }
 }
 
-// Each type of message from a sender that may send it.
-pub(crate) fn messages() {
+// Each type of message of a connection from a sender that may send it.
+fn messages() {
     write(Role::Client, Message::NoOperation { length: 2 }, b"hi");
-    write(Role::Server, Message::Shutdown { length: 0 }, b"");
-    write(Role::Client, Message::Ping { cookie: 4660 }, b"");
-    write(Role::Server, Message::PingAck { cookie: 4660 }, b"");
-    write(Role::Server, Message::Error { length: 0 }, b"");
-    write(Role::Client, increment(7, 127, 65535), b"");
-    write(Role::Server, abort(true, 7, 0), b"");
-    write(Role::Server, Message::Close { session: 7 }, b"");
-    write(Role::Client, Message::Acknowledgment { session: 7 }, b"");
+    write_bare(Role::Server, Message::Shutdown { length: 0 });
+    write_bare(Role::Client, Message::Ping { cookie: 4660 });
+    write_bare(Role::Server, Message::PingAck { cookie: 4660 });
+    write_bare(Role::Server, Message::Error { length: 0 });
+}
+
+// Each type of message of a session from a sender that may send it.
+fn session_messages() {
+    write_bare(Role::Client, increment(7, 127, 65535));
+    write_bare(Role::Server, abort(true, 7, 0));
+    write_bare(Role::Server, Message::Close { session: 7 });
+    write_bare(Role::Client, Message::Acknowledgment { session: 7 });
     write(Role::Client, data(true, false, false, false, 5, 3), b"abc");
     write(Role::Server, data(false, true, true, true, 127, 1), b"z");
 }
 
-// Values and lengths that the reader would not give back, and rooms that are too small.
-pub(crate) fn refused() {
-    write(Role::Client, Message::Shutdown { length: 0 }, b"");
-    write(Role::Server, Message::Acknowledgment { session: 7 }, b"");
-    write(Role::Client, abort(true, 7, 0), b"");
-    write(Role::Server, data(true, false, false, false, 5, 0), b"");
-    write(Role::Server, data(false, true, false, false, 5, 0), b"");
-    write(Role::Server, Message::Close { session: 128 }, b"");
-    write(Role::Client, increment(8, 5, 1), b"");
-    write(Role::Client, data(false, false, false, false, 5, 3), b"ab");
+// Messages of the other sender, and flags of the other.
+fn senders() {
+    write_bare(Role::Client, Message::Shutdown { length: 0 });
+    write_bare(Role::Server, Message::Acknowledgment { session: 7 });
+    write_bare(Role::Client, abort(true, 7, 0));
+    write_bare(Role::Server, data(true, false, false, false, 5, 0));
+    write_bare(Role::Server, data(false, true, false, false, 5, 0));
+}
+
+// A Data message of a client with no flags.
+fn plain(session: u8, length: u16) -> Message {
+    data(false, false, false, false, session, length)
+}
+
+// Values and lengths that the reader would not give back.
+fn values() {
+    write_bare(Role::Server, Message::Close { session: 128 });
+    write_bare(Role::Client, increment(8, 5, 1));
+    write(Role::Client, plain(5, 3), b"ab");
     write(Role::Client, Message::Ping { cookie: 1 }, b"x");
-    write(
-        Role::Client,
-        data(false, false, false, false, 5, 9),
-        b"123456789",
-    );
-    write_short(Role::Client, data(false, false, false, false, 5, 3), b"abc");
-    write_short(Role::Client, data(false, false, false, false, 5, 2), b"ab");
-    write_short(
-        Role::Client,
-        data(false, false, false, false, 128, 3),
-        b"abc",
-    );
+}
+
+// Rooms that are too small, and one that is just large enough; a value is judged before the room.
+fn rooms() {
+    write(Role::Client, plain(5, 9), b"123456789");
+    write_short(Role::Client, plain(5, 3), b"abc");
+    write_short(Role::Client, plain(5, 2), b"ab");
+    write_short(Role::Client, plain(128, 3), b"abc");
+}
+
+fn header_to(room: &mut [u8], n: u16) {
+    let w = wire_header::write_connection_header(n, room);
+    show::number(n as u64);
+    result(w, room);
+    show::end();
 }
 
 fn header(n: u16) {
     let mut room = [0xEEu8; 10];
-    let w = wire_write::write_connection_header(n, &mut room);
     show::text(b"write header ");
-    show::number(n as u64);
-    result(w, &room);
+    header_to(&mut room, n);
 }
 
 fn header_short(n: u16) {
     let mut room = [0xEEu8; 7];
-    let w = wire_write::write_connection_header(n, &mut room);
     show::text(b"write short header ");
-    show::number(n as u64);
-    result(w, &room);
+    header_to(&mut room, n);
 }
 
-pub(crate) fn connection() {
+fn connection() {
     header(4);
     header(65535);
     header_short(4);
+}
+
+pub(crate) fn all() {
+    messages();
+    session_messages();
+    senders();
+    values();
+    rooms();
+    connection();
 }

@@ -1,5 +1,4 @@
 -- What each answer of the reader means, in the paper's numbers and values.
-use Prim.Native.Nat.{ℕ}
 use Rattle.laws.specs.Result.{Result, ok, refused, violation}
 use Rattle.refusal.specs.Number.{refusalNumber, violationNumber}
 use Rattle.refusal.specs.declared.Refusal.the-variants as refusal
@@ -8,10 +7,6 @@ use Rattle.wire_read.specs.declared.Parsed.{Parsed}
 use Rattle.wire_read.specs.declared.Parsed.the-variants as parsed
 use Rattle.wire_read.specs.declared.Read.{Read}
 use Rattle.wire_read.specs.declared.Read.the-variants as read
-use Rattle.wire_read.specs.declared.ParsedHeader.{ParsedHeader}
-use Rattle.wire_read.specs.declared.ParsedHeader.the-variants as parsed-header
-use Rattle.wire_read.specs.declared.ReadHeader.{ReadHeader}
-use Rattle.wire_read.specs.declared.ReadHeader.the-variants as read-header
 
 abbrev pub parsedAs : Parsed → Result Message
 parsedAs (parsed.Message m) = ok m
@@ -21,12 +16,3 @@ abbrev pub readAs : Read → Result Message
 readAs (read.Message m) = ok m
 readAs read.Incomplete = refused (refusalNumber refusal.Incomplete)
 readAs (read.Violated v) = violation (violationNumber v)
-
-abbrev pub headerParsedAs : ParsedHeader → Result ℕ
-headerParsedAs (parsed-header.Number n) = ok n
-headerParsedAs (parsed-header.Violated v) = violation (violationNumber v)
-
-abbrev pub headerReadAs : ReadHeader → Result ℕ
-headerReadAs (read-header.Number n) = ok n
-headerReadAs read-header.Incomplete = refused (refusalNumber refusal.Incomplete)
-headerReadAs (read-header.Violated v) = violation (violationNumber v)

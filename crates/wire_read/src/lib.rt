@@ -1,10 +1,6 @@
-// The reader: what bytes say, a message or a connection header.
-mod headers;
-mod kinds;
+// The reader of messages.
 mod messages;
 
-pub use headers::parse_connection_header;
-pub use headers::read_connection_header;
 pub use messages::parse_header;
 pub use messages::read_message;
 use refusal::Violation;
@@ -19,19 +15,6 @@ pub enum Parsed {
 // What message stands first in an input.
 pub enum Read {
     Message(Message),
-    Incomplete,
-    Violated(Violation),
-}
-
-// What the eight bytes of a connection header say.
-pub enum ParsedHeader {
-    Number(u16),
-    Violated(Violation),
-}
-
-// What connection header stands first in an input.
-pub enum ReadHeader {
-    Number(u16),
     Incomplete,
     Violated(Violation),
 }

@@ -1,96 +1,19 @@
 // What bytes say: the four header bytes of a message, and the message that stands first in an input.
 use crate::Parsed;
 use crate::Read;
-use crate::kinds::kind_of;
 use refusal::Violation;
 use wire::Kind;
 use wire::Message;
-use wire::Named;
 use wire::Role;
-use wire::body_length;
-use wire::flags_allowed;
-use wire::may_send;
+use wire_amounts::body_length;
+use wire_decode::Decoded;
+use wire_decode::decode;
+use wire_senders::flags_allowed;
+use wire_senders::may_send;
 ghost use mathlib.Core.Path.{_≡_};
-ghost use Prim.Native.Nat.{_+_, _*_};
 ghost use mathlib.Core.List.{_∷_, []};
-ghost use mathlib.Core.Bool.{_&&_};
-ghost use lib.Dec.{ltb, eqb};
-ghost use Rattle.wire.specs.declared.Named.the-variants.{Known};
-ghost use Rattle.wire.specs.FirstByte.{kindOf};
-ghost use Rattle.wire.specs.Layout.{layout, fixed, message};
 ghost use Rattle.wire.specs.Message.{allowed, parseHeader, withBody, readMessage};
 ghost use Rattle.wire_read.specs.Answer.{parsedAs, readAs};
-
-// Whether byte 1 is a session number and bytes 2 and 3 are 0.
-fn bare_session(second: u8, third: u8, fourth: u8) -> bool
-    ensures { λ r. ⌜ r ≡ (ltb second 128 && eqb third 0 && eqb fourth 0) ⌝ }
-{
-    let session = second < 128;
-    let high = third == 0;
-    let low = fourth == 0;
-    session & high & low
-}
-
-// Whether the reserved bits of a header are 0, where its first byte names the type.
-fn reserved_clear(kind: Kind, first: u8, second: u8, third: u8, fourth: u8) -> bool
-    requires { ⌜ kindOf first ≡ Known kind ⌝ }
-    ensures { λ r. ⌜ r ≡ fixed (layout kind) (first ∷ second ∷ third ∷ fourth ∷ []) ⌝ }
-{
-    match kind {
-        Kind::NoOperation => second == 0,
-        Kind::Shutdown => second == 0,
-        Kind::Ping => second == 0,
-        Kind::PingAck => second == 0,
-        Kind::Error => second == 0,
-        Kind::IncrementRation => second < 128,
-        Kind::Abort => second < 128,
-        Kind::Close => bare_session(second, third, fourth),
-        Kind::Acknowledgment => bare_session(second, third, fourth),
-        Kind::Data => second < 128,
-    }
-}
-
-// The 16-bit number of two bytes, high byte first.
-pub(crate) fn join(high: u8, low: u8) -> u16
-    ensures { λ r. ⌜ r ≡ high * 256 + low ⌝ }
-{
-    (high as u16) * 256 + (low as u16)
-}
-
-// The message of a type, from its header bytes.
-fn message_of(kind: Kind, first: u8, second: u8, third: u8, fourth: u8) -> Message
-    ensures { λ r. ⌜ r ≡ message kind (first ∷ second ∷ third ∷ fourth ∷ []) ⌝ }
-{
-    let number = join(third, fourth);
-    let session = second % 128;
-    match kind {
-        Kind::NoOperation => Message::NoOperation { length: number },
-        Kind::Shutdown => Message::Shutdown { length: number },
-        Kind::Ping => Message::Ping { cookie: number },
-        Kind::PingAck => Message::PingAck { cookie: number },
-        Kind::Error => Message::Error { length: number },
-        Kind::IncrementRation => Message::IncrementRation {
-            shift: first / 2 % 8,
-            session,
-            increment: number,
-        },
-        Kind::Abort => Message::Abort {
-            partial: first / 2 % 2 == 1,
-            session,
-            length: number,
-        },
-        Kind::Close => Message::Close { session },
-        Kind::Acknowledgment => Message::Acknowledgment { session },
-        Kind::Data => Message::Data {
-            open: first / 16 % 2 == 1,
-            close: first / 8 % 2 == 1,
-            eof: first / 4 % 2 == 1,
-            ack_required: first / 2 % 2 == 1,
-            session,
-            length: number,
-        },
-    }
-}
 
 // The message, where the sender may send it.
 fn if_allowed(from: Role, kind: Kind, m: Message) -> Parsed
@@ -109,16 +32,11 @@ fn if_allowed(from: Role, kind: Kind, m: Message) -> Parsed
 pub fn parse_header(from: Role, first: u8, second: u8, third: u8, fourth: u8) -> Parsed
     ensures { λ r. ⌜ parsedAs r ≡ parseHeader from (first ∷ second ∷ third ∷ fourth ∷ []) ⌝ }
 {
-    let named = kind_of(first);
-    match named {
-        Named::Known(kind) => {
-            if reserved_clear(kind, first, second, third, fourth) {
-                let m = message_of(kind, first, second, third, fourth);
-                return if_allowed(from, kind, m);
-            }
-            Parsed::Violated(Violation::ReservedBit)
-        }
-        Named::Unknown => Parsed::Violated(Violation::UnknownType),
+    let decoded = decode(first, second, third, fourth);
+    match decoded {
+        Decoded::Message { kind, message } => if_allowed(from, kind, message),
+        Decoded::ReservedBit => Parsed::Violated(Violation::ReservedBit),
+        Decoded::UnknownType => Parsed::Violated(Violation::UnknownType),
     }
 }
 

@@ -1,19 +1,20 @@
 // The bytes of a message, and where they are written.
-use crate::Written;
 use crate::copy::copy_in;
 use refusal::Refusal;
-use wire::Kind;
 use wire::Message;
 use wire::Role;
-use wire::body_length;
-use wire::flags_allowed;
-use wire::may_send;
+use wire_amounts::body_length;
+use wire_header::Written;
+use wire_items::kind_of_message;
+use wire_items::number_of;
+use wire_items::second_byte;
+use wire_items::shift_of;
+use wire_senders::flags_allowed;
+use wire_senders::may_send;
 ghost use mathlib.Core.Path.{_≡_};
-ghost use Prim.Native.Nat.{_+_, _≤_, _<_};
-ghost use mathlib.Core.List.{_++_};
-ghost use lib.ListN.{length, take, drop};
-ghost use Rattle.wire.specs.Message.{weight as Message·weight, firstByte, secondByte, numberOf, shiftOf, kindOfMessage, writable, writeMessage};
-ghost use Rattle.wire_write.specs.Answer.{writtenAs};
+ghost use Prim.Native.Nat.{_≤_, _<_};
+ghost use Rattle.wire.specs.Message.{weight as Message·weight, firstByte, shiftOf, writable, writeMessage};
+ghost use Rattle.wire_header.specs.Answer.{writtenAs};
 
 // The weight of a flag's bit, or 0.
 fn weight(w: u8, set: bool) -> u8
@@ -48,77 +49,6 @@ fn first_byte(m: Message) -> u8
         } => {
             0x80 + weight(16, open) + weight(8, close) + weight(4, eof) + weight(2, ack_required)
         }
-    }
-}
-
-fn second_byte(m: Message) -> u8
-    ensures { λ r. ⌜ r ≡ secondByte m ⌝ }
-{
-    match m {
-        Message::NoOperation { .. } => 0,
-        Message::Shutdown { .. } => 0,
-        Message::Ping { .. } => 0,
-        Message::PingAck { .. } => 0,
-        Message::Error { .. } => 0,
-        Message::IncrementRation { session, .. } => session,
-        Message::Abort { session, .. } => session,
-        Message::Close { session } => session,
-        Message::Acknowledgment { session } => session,
-        Message::Data { session, .. } => session,
-    }
-}
-
-// The number in bytes 2 and 3.
-fn number_of(m: Message) -> u16
-    ensures { λ r. ⌜ r ≡ numberOf m ⌝ }
-{
-    match m {
-        Message::NoOperation { length } => length,
-        Message::Shutdown { length } => length,
-        Message::Ping { cookie } => cookie,
-        Message::PingAck { cookie } => cookie,
-        Message::Error { length } => length,
-        Message::IncrementRation { increment, .. } => increment,
-        Message::Abort { length, .. } => length,
-        Message::Close { .. } => 0,
-        Message::Acknowledgment { .. } => 0,
-        Message::Data { length, .. } => length,
-    }
-}
-
-// The shift of an IncrementRation, and 0 of any other message.
-fn shift_of(m: Message) -> u8
-    ensures { λ r. ⌜ r ≡ shiftOf m ⌝ }
-{
-    match m {
-        Message::NoOperation { .. } => 0,
-        Message::Shutdown { .. } => 0,
-        Message::Ping { .. } => 0,
-        Message::PingAck { .. } => 0,
-        Message::Error { .. } => 0,
-        Message::IncrementRation { shift, .. } => shift,
-        Message::Abort { .. } => 0,
-        Message::Close { .. } => 0,
-        Message::Acknowledgment { .. } => 0,
-        Message::Data { .. } => 0,
-    }
-}
-
-// The type of a message.
-fn kind_of_message(m: Message) -> Kind
-    ensures { λ r. ⌜ r ≡ kindOfMessage m ⌝ }
-{
-    match m {
-        Message::NoOperation { .. } => Kind::NoOperation,
-        Message::Shutdown { .. } => Kind::Shutdown,
-        Message::Ping { .. } => Kind::Ping,
-        Message::PingAck { .. } => Kind::PingAck,
-        Message::Error { .. } => Kind::Error,
-        Message::IncrementRation { .. } => Kind::IncrementRation,
-        Message::Abort { .. } => Kind::Abort,
-        Message::Close { .. } => Kind::Close,
-        Message::Acknowledgment { .. } => Kind::Acknowledgment,
-        Message::Data { .. } => Kind::Data,
     }
 }
 

@@ -50,17 +50,18 @@ use Rattle.wire.specs.declared.Role.{Role}
 use Rattle.wire.specs.declared.Message.{Message}
 use Rattle.wire.proofs.Role as F
 use Rattle.wire.proofs.Role.Laws as F′
-use Rattle.capture.specs.Capture.{stepAt, advanced, nextAs, stepAs}
-use Rattle.capture.specs.declared.Next.{Next}
+use Rattle.places.specs.Place.{stepAt, nextAs, stepAs}
+use Rattle.capture.specs.Capture.{advanced}
+use Rattle.places.specs.declared.Next.{Next}
 use Rattle.capture.specs.declared.Reader.{Reader}
-use Rattle.capture.specs.declared.Step.{Step}
+use Rattle.places.specs.declared.Step.{Step}
 use Rattle.capture.proofs.Held.{slice-val, role-val, next-val, SliceOwn, ReaderOwn, place-fits, number, role, twice, holds}
 use Rattle.capture.proofs.Reader as T
 use Rattle.capture.proofs.Reader.Laws as T′
-use Rattle.capture.proofs.Next as N
-use Rattle.capture.proofs.Next.Laws as N′
-use Rattle.capture.proofs.Step as S
-use Rattle.capture.proofs.Step.Laws as S′
+use Rattle.places.proofs.Next as N
+use Rattle.places.proofs.Next.Laws as N′
+use Rattle.places.proofs.Step as S
+use Rattle.places.proofs.Step.Laws as S′
 use Rattle.capture.proofs.Reader.next as next
 use Rattle.capture.proofs.Reader.next.Symbol as next-def
 use Rattle.capture.proofs.Reader.next.Symbol.{name as #next}

@@ -4,7 +4,7 @@ use lib.Dec.{ltb}
 use borrow.Author.Needs.{needs}
 use Rattle.protocol.specs.Plan.{take, check}
 use Rattle.protocol.specs.Call.{running, unstarted}
-use Rattle.connection.proofs.Checks.{one-more}
+use Rattle.gates.proofs.Checks.{one-more}
 use Rattle.receive.proofs.to_receive.Statement.{statement}
 use Rattle.receive.proofs.to_receive.Tie as tie
 

@@ -6,7 +6,7 @@ use borrow.Author.Needs.{needs}
 use Rattle.protocol.specs.Slot.{queueSize, turnRoom}
 use Rattle.protocol.specs.Plan.{take}
 use Rattle.protocol.specs.Call.{upAndRunning, roomFor}
-use Rattle.connection.proofs.Checks.{one-more}
+use Rattle.gates.proofs.Checks.{one-more}
 use Rattle.turn.proofs.to_turn.Statement.{statement}
 use Rattle.turn.proofs.to_turn.Tie as tie
 

@@ -2,7 +2,7 @@
 use lib.ListN.{length}
 use denote.Ref.{now}
 use borrow.Author.Needs.{needs}
-use Rattle.connection.proofs.Sessions.{waiting-fits}
+use Rattle.formed.proofs.Sessions.{waiting-fits}
 use Rattle.turn.proofs.Ready.{found-next, found-none}
 use Rattle.turn.proofs.Served.{gate-has}
 use Rattle.turn.proofs.Whole.{next-number, turn-stopped, turn-none, turn-served}

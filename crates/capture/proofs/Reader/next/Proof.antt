@@ -45,20 +45,21 @@ use Rattle.wire.specs.declared.Role.{Role}
 use Rattle.wire.specs.declared.Message.{Message}
 use Rattle.wire.proofs.Role as F
 use Rattle.wire.proofs.Role.Laws as F′
-use Rattle.capture.specs.Capture.{stepAt, advanced, nextAs, stepAs}
+use Rattle.places.specs.Place.{stepAt, nextAs, stepAs}
+use Rattle.capture.specs.Capture.{advanced}
 use Rattle.capture.specs.declared.Reader.{Reader}
-use Rattle.capture.specs.declared.Step.{Step}
+use Rattle.places.specs.declared.Step.{Step}
 use Rattle.capture.proofs.Held.{slice-val, role-val, next-val, SliceOwn, ReaderOwn, place-fits, number, role, twice, holds, held}
 use Rattle.capture.proofs.Reader as T
 use Rattle.capture.proofs.Reader.Laws as T′
-use Rattle.capture.proofs.Next as N
-use Rattle.capture.proofs.Next.Laws as N′
-use Rattle.capture.proofs.Step as S
-use Rattle.capture.proofs.Step.Laws as S′
-use Rattle.capture.proofs.places.next_at as next-at
-use Rattle.capture.proofs.places.next_at.Symbol as next-at-def
-use Rattle.capture.proofs.places.next_at.Symbol.{name as #next-at}
-use Rattle.capture.proofs.places.next_at.Met as next-at-thm
+use Rattle.places.proofs.Next as N
+use Rattle.places.proofs.Next.Laws as N′
+use Rattle.places.proofs.Step as S
+use Rattle.places.proofs.Step.Laws as S′
+use Rattle.places.proofs.next_at as next-at
+use Rattle.places.proofs.next_at.Symbol as next-at-def
+use Rattle.places.proofs.next_at.Symbol.{name as #next-at}
+use Rattle.places.proofs.next_at.Met as next-at-thm
 use Rattle.capture.proofs.Reader.next.Key.{name as #next}
 use Rattle.capture.proofs.Reader.next as next
 use Rattle.capture.proofs.Reader.next.Statement as stated
@@ -230,4 +231,4 @@ next-spec 𝓤 H 𝓜 𝓖 𝓡 =
     entered 𝓤 H (tripleOf 𝓤 H (𝓖 .A) next.signature (next.spec 𝓤 H (𝓖 .A) (𝓜 .mem) (𝓡 .run)))
     (tables 𝓤 H 𝓜 𝓡 code.env .C) (tables 𝓤 H 𝓜 𝓡 code.env .Λ) #next code.function (code.unfolded 𝓤 H 𝓜 𝓡)
     (next-meets 𝓤 H (𝓖 .A) (givenOf 𝓤 H 𝓜 𝓖) (𝓜 .mem) (𝓡 .run) (tablesOf 𝓤 H 𝓜 (tables 𝓤 H 𝓜 𝓡 code.env))
-    (cited 𝓤 H (NextAt 𝓤 H (𝓖 .A) (𝓜 .mem) (𝓡 .run)) 𝓜 𝓡 code.env #next-at next-at-def.routine code.calls-capture·places·next-at (next-at-thm.met 𝓤 H 𝓜 𝓖 𝓡)))
+    (cited 𝓤 H (NextAt 𝓤 H (𝓖 .A) (𝓜 .mem) (𝓡 .run)) 𝓜 𝓡 code.env #next-at next-at-def.routine code.calls-places·next-at (next-at-thm.met 𝓤 H 𝓜 𝓖 𝓡)))

@@ -1,7 +1,7 @@
 -- `Clock::first` meets its contract: its operation is that of the definition.
 use mathlib.Core.Path.{refl}
 use lib.Ieee.{ofBits, ofInt}
-use Rattle.clock.specs.Arithmetic.{whole}
+use Rattle.floats.specs.Arithmetic.{whole}
 use Rattle.clock.specs.Clock.{first}
 use Rattle.clock.proofs.Clock.first.Statement.{statement}
 use Rattle.clock.proofs.Clock.first.Tie as tie

@@ -1,7 +1,7 @@
 -- `Clock::is_good` meets its contract, from what `within` ensures.
 use lib.Ieee.{ofBits, ofInt}
 use borrow.Author.Needs.{needs}
-use Rattle.clock.specs.Arithmetic.{whole}
+use Rattle.floats.specs.Arithmetic.{whole}
 use Rattle.clock.specs.Clock.{goodClock}
 use Rattle.clock.proofs.Clock.is_good.Statement.{statement}
 use Rattle.clock.proofs.Clock.is_good.Tie as tie

@@ -3,8 +3,8 @@ use mathlib.Core.Path.{_≡_}
 use mathlib.Core.Bool.{true}
 use lib.Ieee.{Float, ofBits, ofInt, div}
 use borrow.Author.Needs.{needs}
+use Rattle.floats.specs.Arithmetic.{_⊕_, _⊗_, whole, 0·75, 0·25, 0·875, 0·125, distance}
 use Rattle.clock.specs.declared.Clock.{Clock}
-use Rattle.clock.specs.Arithmetic.{_⊕_, _⊗_, whole, 0·75, 0·25, 0·875, 0·125, distance}
 use Rattle.clock.specs.Clock.{later}
 use Rattle.clock.proofs.Clock.later.Statement.{statement}
 use Rattle.clock.proofs.Clock.later.Tie as tie

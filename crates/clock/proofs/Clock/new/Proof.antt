@@ -1,7 +1,7 @@
 -- `Clock::new` meets its contract: its numbers are those of the definition.
 use mathlib.Core.Path.{refl}
 use lib.Ieee.{ofBits, ofInt}
-use Rattle.clock.specs.Arithmetic.{whole}
+use Rattle.floats.specs.Arithmetic.{whole}
 use Rattle.clock.specs.Clock.{newClock}
 use Rattle.clock.proofs.Clock.new.Statement.{statement}
 use Rattle.clock.proofs.Clock.new.Tie as tie

@@ -2,7 +2,7 @@
 use mathlib.Core.Path.{refl, sym}
 use borrow.Author.Needs.{needs}
 use Rattle.laws.proofs.Pick.{yes, no}
-use Rattle.clock.specs.Arithmetic.{whole}
+use Rattle.floats.specs.Arithmetic.{whole}
 use Rattle.clock.specs.Clock.{sampleRule}
 use Rattle.clock.proofs.Tests.{both-ensured}
 use Rattle.clock.proofs.Clock.update.Statement.{statement}

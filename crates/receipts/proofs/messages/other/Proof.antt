@@ -10,7 +10,8 @@ use Rattle.protocol.specs.Message.{SessionMessage}
 use Rattle.protocol.specs.Session.{Move, follow}
 use Rattle.protocol.specs.Receipt.{arriving, other}
 use Rattle.protocol.specs.Plan.{settle}
-use Rattle.receipts.specs.Receipt.{moveAs, receivedAs, toReceipt}
+use Rattle.arrivals.specs.Receipt.{receivedAs, toReceipt}
+use Rattle.receipts.specs.Move.{moveAs}
 use Rattle.receipts.proofs.messages.other.Statement.{statement}
 use Rattle.receipts.proofs.messages.other.Tie as tie
 

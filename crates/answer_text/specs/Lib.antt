@@ -1,0 +1,2 @@
+-- The definition of an answer's words.
+pub mod Answers

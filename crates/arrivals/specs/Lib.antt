@@ -1,0 +1,2 @@
+-- The definitions of what a message received comes to.
+pub mod Receipt

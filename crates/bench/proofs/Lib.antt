@@ -1,0 +1,2 @@
+-- The claim that every row of the table holds.
+pub mod Rows

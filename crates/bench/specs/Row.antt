@@ -1,0 +1,109 @@
+-- A row is an input and what must come of it. It holds where the definition that the public call's contract cites gives exactly that.
+use mathlib.Core.Path.{_≡_}
+use mathlib.Core.Bool.{Bool, true, false}
+use mathlib.Core.List.{List, [], _∷_}
+use Prim.Native.Nat.{ℕ}
+use lib.ListN.{take, drop, replicate}
+use lib.Ieee.{Float}
+use Rattle.laws.specs.Result.{Result, ok, refused, violation}
+use Rattle.ration.specs.declared.Ration.{Ration}
+use Rattle.ration.specs.Ration.{fromHeader}
+use Rattle.wire.specs.declared.Role.{Role}
+use Rattle.wire.specs.declared.Message.{Message}
+use Rattle.wire.specs.Message.{bodyLength, readMessage}
+use Rattle.wire.specs.Connection.{readConnectionHeader}
+use Rattle.protocol.specs.declared.Connection.{Connection}
+use Rattle.protocol.specs.declared.Setup.{Setup}
+use Rattle.protocol.specs.Connection.{fresh, at, exchanged, wellFormed}
+use Rattle.protocol.specs.Judge.{Report}
+use Rattle.protocol.specs.Result.{Given, receiveCall}
+use Rattle.ping_limit.specs.declared.Setting.{Setting}
+use Rattle.clock.specs.Clock.{newClock}
+use Rattle.ping_limit.specs.Claims.{limitsAfter}
+
+-- the ration that a row looks at: of a session, for what it receives or for what it sends
+pub data Watched : Type 0 where
+  inbound outbound : (session : ℕ) → Watched
+
+-- what comes of a receive: the answer, how many bytes of the input are used, the bytes written, the ration after it, and whether the
+-- connection is over
+pub record Came : Type 0 where
+  pub answer : Result Report
+  pub used : ℕ
+  pub wrote : List ℕ
+  pub ration : Ration
+  pub over : Bool
+
+-- `Result` carries a refusal or a violation by its number
+pub data Row : Type 0 where
+  -- a connection header, and the starting ration that it grants
+  header : (bytes : List ℕ) → Result Ration → Row
+  -- a message from a sender, or from either, and the bytes that follow its four header bytes
+  message : (from : Role) (bytes : List ℕ) → Result (Message × List ℕ) → Row
+  message-of-either : (bytes : List ℕ) → Result (Message × List ℕ) → Row
+  -- a message to an end that was just made and has received `earlier`, with the ration as it stands before
+  received : (end : Setup) (earlier : List (List ℕ)) (watched : Watched) (before : Ration) (input : List ℕ) → Came → Row
+  -- samples to a new clock, and the limit after each
+  limits : (setting : Setting) (samples : List ℕ) → List (Result Float) → Row
+
+-- ---- headers and messages
+
+-- what a header that is read grants
+abbrev pub granted : Result ℕ → Result Ration
+granted (ok number) = ok (fromHeader number)
+granted (refused n) = refused n
+granted (violation n) = violation n
+
+-- a message that is read, with as many of the bytes behind its header as it has
+abbrev pub followed : List ℕ → Result Message → Result (Message × List ℕ)
+followed bytes (ok m) = ok (m, take (bodyLength m) (drop 4 bytes))
+followed bytes (refused n) = refused n
+followed bytes (violation n) = violation n
+
+-- ---- receives
+
+-- the smallest room that a receive takes
+abbrev pub room : List ℕ
+room = replicate 12 0
+
+-- each receive gets the connection that the last one left
+unfoldable pub after : Connection → List (List ℕ) → Connection
+after c [] = c
+after c (input ∷ inputs) = after (receiveCall c input room .0 .connection) inputs
+
+abbrev pub rationAt : Watched → Connection → Ration
+rationAt (inbound n) c = at c n .inbound
+rationAt (outbound n) c = at c n .outbound
+
+-- what a receive gives, with the room after it
+abbrev pub came : Watched → Given × List ℕ → Came
+came w (g, lent) =
+    record {
+      answer = g .answer;
+      used = g .used;
+      wrote = take (g .wrote) lent;
+      ration = rationAt w (g .connection);
+      over = g .connection .over;
+    }
+
+-- the connection is well formed and up, with this ration, and this comes of the input
+pub record Receives (c : Connection) (w : Watched) (before : Ration) (input : List ℕ) (must : Came) : Type 0 where
+  pub formed : wellFormed c ≡ true
+  pub up : exchanged (c .stage) ≡ true
+  pub running : c .over ≡ false
+  pub ration : rationAt w c ≡ before
+  pub comes : came w (receiveCall c input room) ≡ must
+
+-- ---- what a row claims
+
+unfoldable pub holds : Row → Type 0
+holds (header bytes must) = granted (readConnectionHeader bytes) ≡ must
+holds (message from bytes must) = followed bytes (readMessage from bytes) ≡ must
+holds (message-of-either bytes must) = (from : Role) → followed bytes (readMessage from bytes) ≡ must
+holds (received end earlier w before input must) = Receives (after (fresh end) earlier) w before input must
+holds (limits setting samples must) = limitsAfter setting newClock samples ≡ must
+
+-- a claim about each row of a list
+unfoldable pub All : (Row → Type 0) → List Row → Type 0
+All claim [] = Unit {0}
+All claim (r ∷ rs) = claim r × All claim rs

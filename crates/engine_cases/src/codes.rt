@@ -1,0 +1,152 @@
+// A state in nine letters, which the tables use.
+//
+// 0, the end: c a client, s a server, b one after the other.
+// 1, the stage: f fresh, t started, u up.
+// 2, a mark: o over, p a ping outstanding, l m n last served 128 255 0, w over and last served 128.
+// 3, the sides: . idle; i j k opening after idle, finished, ended; 1 2 3 ours open, 4 5 6 finished, 7 8 9 ended, each with
+//    theirs open, finished, ended.
+// 4 and 5, the rations, outbound and inbound: e endless, or a number.
+// 6, how many bytes wait. 7, f where finish is asked. 8, the session's number.
+use crate::show::find;
+use connection::with_session;
+use protocol::Before;
+use protocol::Connection;
+use protocol::Outcome;
+use protocol::Ping;
+use protocol::Session;
+use protocol::Side;
+use protocol::Sides;
+use protocol::Stage;
+use ration::Ration;
+use wire::Role;
+
+// The numbers of the letters 1 to 9 and a to f, then those of the marks - o p l w m, then those of the capital letters.
+const NUMBERS: [u32; 40] = [
+    1,
+    2,
+    3,
+    4,
+    5,
+    6,
+    7,
+    8,
+    9,
+    10,
+    11,
+    12,
+    13,
+    14,
+    15,
+    127,
+    127,
+    127,
+    128,
+    128,
+    255,
+    1024,
+    65535,
+    65536,
+    2147483000,
+    2147483646,
+    2147483647,
+    2147483648,
+    4294967295,
+    127,
+    252,
+    253,
+    256,
+    257,
+    200,
+    259,
+    260,
+    32767,
+    32768,
+    32769,
+];
+
+// The letter at a place, or a space past the end.
+pub(crate) fn letter(s: &[u8], i: usize) -> u8 {
+    if i < s.len() {
+        return s[i];
+    }
+    b' '
+}
+
+// The number that a letter stands for, 0 where it stands for none.
+pub(crate) fn number_of(b: u8) -> u32 {
+    let i = find(b"123456789abcdef-oplwmKFGHYMXZTPQRSNIJABC", 0, b);
+    if i < 40 {
+        return NUMBERS[i];
+    }
+    0
+}
+
+// The number of the letter at a place, which is less than 256.
+pub(crate) fn small(s: &[u8], i: usize) -> u8 {
+    (number_of(letter(s, i)) % 256) as u8
+}
+
+fn sides_of(b: u8) -> Sides {
+    match b {
+        b'i' => Sides::Opening(Before::Idle),
+        b'j' => Sides::Opening(Before::Finished),
+        b'k' => Sides::Opening(Before::Ended),
+        b'1' => Sides::Live(Side::Open, Side::Open),
+        b'2' => Sides::Live(Side::Open, Side::Finished),
+        b'3' => Sides::Live(Side::Open, Side::Ended),
+        b'4' => Sides::Live(Side::Finished, Side::Open),
+        b'5' => Sides::Live(Side::Finished, Side::Finished),
+        b'6' => Sides::Live(Side::Finished, Side::Ended),
+        b'7' => Sides::Live(Side::Ended, Side::Open),
+        b'8' => Sides::Live(Side::Ended, Side::Finished),
+        b'9' => Sides::Live(Side::Ended, Side::Ended),
+        _ => Sides::Idle,
+    }
+}
+
+fn ration_of(b: u8) -> Ration {
+    if b == b'e' {
+        return Ration::Endless;
+    }
+    Ration::Finite(number_of(b))
+}
+
+fn stage_of(role: Role, b: u8) -> Stage {
+    match b {
+        b'f' => Stage::Fresh(role),
+        b't' => Stage::Started,
+        _ => Stage::Up(role, 4),
+    }
+}
+
+fn ping_of(b: u8) -> Ping {
+    if b == b'p' {
+        return Ping::Outstanding(7);
+    }
+    Ping::None
+}
+
+fn session_of(code: &[u8]) -> Session {
+    Session {
+        sides: sides_of(letter(code, 3)),
+        outbound: ration_of(letter(code, 4)),
+        inbound: ration_of(letter(code, 5)),
+        waiting: (number_of(letter(code, 6)) % 65536) as u16,
+        finish: letter(code, 7) == b'f',
+        outcome: Outcome::Running,
+    }
+}
+
+// An end whose header number is 4, as the far one's is.
+pub(crate) fn state_of(role: Role, code: &[u8]) -> Connection {
+    let mark = letter(code, 2);
+    let c = Connection {
+        sessions: [Session::BLANK; 128],
+        stage: stage_of(role, letter(code, 1)),
+        over: (mark == b'o') | (mark == b'w'),
+        own: 4,
+        last: small(code, 2),
+        ping: ping_of(mark),
+    };
+    with_session(c, small(code, 8), session_of(code))
+}

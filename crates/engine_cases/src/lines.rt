@@ -1,0 +1,139 @@
+// A line: one call, what it answers and writes, and what it changes.
+use crate::call;
+use crate::call::Call;
+use crate::compare::change;
+use crate::compare::fate_words;
+use crate::compare::role_words;
+use crate::show;
+use crate::show::item;
+use crate::show::say;
+use answer_text::answered;
+use connection::role_of;
+use connection::session_at;
+use marks::is_filled;
+use protocol::Answer;
+use protocol::Called;
+use protocol::Connection;
+use protocol::Stage;
+use text::Line;
+use text::first;
+
+// One end with its queue, from call to call.
+pub(crate) struct Bench {
+    pub(crate) connection: Connection,
+    pub(crate) queue: [u8; 32768],
+}
+
+pub(crate) fn on_bench(connection: Connection) -> Bench {
+    Bench {
+        connection,
+        queue: [0xDDu8; 32768],
+    }
+}
+
+fn answer(a: Answer, used: usize) {
+    let line = answered(Line::new().text(b":"), a, used);
+    let bytes = line.bytes;
+    show::text(first(&bytes, line.length));
+}
+
+// The bytes used where the words of the answer do not tell of them.
+fn used_beside(a: Answer, used: usize) {
+    match a {
+        Answer::Header(_) => {}
+        Answer::Message { .. } => {}
+        _ => {
+            if 0 < used {
+                item(show::USED, used as u64);
+            }
+        }
+    }
+}
+
+// The payload among the bytes received.
+fn payload(bytes: &[u8], start: usize, end: usize) {
+    if start < end {
+        say(show::PAYLOAD);
+        show::part(bytes, start, end);
+    }
+}
+
+// The bytes written and the one behind them, and a complaint where a byte behind them is not as lent.
+fn written(wrote: usize, room: &[u8]) {
+    if 0 < wrote {
+        say(show::WROTE);
+        show::part(room, 0, wrote);
+        say(show::THEN);
+        show::bytes(first(show::rest(room, wrote), 1));
+    }
+    if !is_filled(room, wrote, 0xEE) {
+        say(show::SPOILED);
+    }
+}
+
+// What a call gives beside the state.
+fn outcome(called: Called, bytes: &[u8], room: &[u8]) {
+    let a = called.answer;
+    answer(a, called.used);
+    used_beside(a, called.used);
+    payload(bytes, called.start, called.end);
+    written(called.wrote, room);
+}
+
+fn changed(before: Connection, after: Connection, queue_kept: bool) {
+    say(change(before, after));
+    if queue_kept {
+        say(show::LINE_END);
+    } else {
+        say(show::QUEUE_CHANGED);
+    }
+}
+
+pub(crate) fn role(stage: Stage) {
+    say(role_words(role_of(stage)));
+}
+
+// The end and the call with its numbers and bytes.
+fn question(stage: Stage, asked: Call, bytes: &[u8]) {
+    role(stage);
+    say(asked.kind);
+    call::items(asked);
+    if 0 < bytes.len() {
+        say(show::SPACE);
+        show::bytes(bytes);
+    }
+}
+
+// One call with 272 bytes of room, the bytes of a put or a receive beside it.
+pub(crate) fn line(b: Bench, asked: Call, bytes: &[u8]) -> Bench {
+    let before = b.connection;
+    let queue_before = b.queue;
+    let mut queue = queue_before;
+    let mut room = [0xEEu8; 272];
+    let stage = before.stage;
+    question(stage, asked, bytes);
+    let called = call::ask(before, asked, bytes, &mut queue, &mut room);
+    outcome(called, bytes, &room);
+    let after = called.connection;
+    changed(before, after, check::same(&queue, &queue_before));
+    Bench {
+        connection: after,
+        queue,
+    }
+}
+
+// The first bytes of slot 5 and its last one, each with its neighbour in the next slot.
+pub(crate) fn slot_5(queue: &[u8]) {
+    say(show::SLOT_5);
+    show::part(queue, 1279, 1284);
+    say(show::DOTS);
+    show::part(queue, 1535, 1537);
+    say(show::LINE_END);
+}
+
+pub(crate) fn fate(c: Connection, n: u8) {
+    let x = session_at(c, n);
+    let outcome = x.outcome;
+    item(show::FATE_OF, n as u64);
+    say(fate_words(outcome));
+}

@@ -1,0 +1,17 @@
+-- `tables` is safe and ends: the number of rounds that are left falls.
+use Prim.Native.Nat.{_≤_, _-_}
+use borrow.Author.Needs.{needs}
+use Rattle.engine_cost.proofs.rounds.tables.Statement.{statement}
+use Rattle.engine_cost.proofs.rounds.tables.Tie as tie
+
+abbrev Inv-loop : tie.InvT-loop
+Inv-loop r₀ i₀ r i = i ≤ 100000
+
+abbrev μ-loop : tie.MeasureT-loop
+μ-loop r₀ i₀ r i = 100000 - i
+
+pub tables-spec : {M : Type 1} → statement M
+tables-spec =
+    tie.close
+    (tie.spec
+    Inv-loop μ-loop (λ c κs. search needs) (λ c. search needs) (λ c κs. search needs) (λ c κs. search needs) (λ c. search needs) (λ c. search needs) (λ c. search needs) (λ c. search needs))

@@ -1,0 +1,59 @@
+-- The numbers of binary64 that the ping clock works with, and the operations on them, each rounded once.
+use Prim.Native.Nat.{ℕ}
+use mathlib.Core.Path.{_≡_}
+use mathlib.Core.Bool.{Bool, true, _&&_, cond}
+use lib.IntN.{pos}
+use lib.Ieee.{Float, binary64, add, sub, mul, div, lt, le, ofInt}
+
+-- sum, difference, product and quotient, rounded once: to the nearest number, at a tie to the even one
+infixl 6 _⊕_ _⊖_
+infixl 7 _⊗_ _⊘_
+abbrev pub _⊕_ : Float → Float → Float
+x ⊕ y = add binary64 x y
+
+abbrev pub _⊖_ : Float → Float → Float
+x ⊖ y = sub binary64 x y
+
+abbrev pub _⊗_ : Float → Float → Float
+x ⊗ y = mul binary64 x y
+
+abbrev pub _⊘_ : Float → Float → Float
+x ⊘ y = div binary64 x y
+
+unfoldable pub whole : ℕ → Float
+whole n = ofInt binary64 (pos n)
+
+-- 0.75, 0.25, 0.875 and 0.125, which binary64 holds exactly
+unfoldable pub 0·75 : Float
+0·75 = whole 3 ⊘ whole 4
+
+unfoldable pub 0·25 : Float
+0·25 = whole 1 ⊘ whole 4
+
+unfoldable pub 0·875 : Float
+0·875 = whole 7 ⊘ whole 8
+
+unfoldable pub 0·125 : Float
+0·125 = whole 1 ⊘ whole 8
+
+-- x is a number from low to high: NaN is none, and -0 counts as 0
+abbrev pub within : ℕ → ℕ → Float → Bool
+within low high x = le (whole low) x && le x (whole high)
+
+abbrev pub larger : Float → Float → Float
+larger x y = cond (lt x y) y x
+
+abbrev pub smaller : Float → Float → Float
+smaller x y = cond (lt y x) y x
+
+-- the smaller subtracted from the larger; x from y where they are equal, so that the distance of -0 and a sample of 0 is 0
+abbrev pub distance : Float → Float → Float
+distance x y = cond (lt y x) (x ⊖ y) (y ⊖ x)
+
+-- x held between floor and ceiling
+abbrev pub held : Float → Float → Float → Float
+held floor ceiling x = smaller ceiling (larger floor x)
+
+-- x lies between floor and ceiling
+abbrev pub Between : Float → Float → Float → Type 0
+Between floor ceiling x = (le floor x ≡ true) × (le x ceiling ≡ true)

@@ -1,0 +1,2 @@
+-- The definitions of the numbers of binary64.
+pub mod Arithmetic

@@ -1,0 +1,2 @@
+-- The laws of checks that are asked one after another.
+pub mod Checks

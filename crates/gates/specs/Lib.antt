@@ -1,0 +1,2 @@
+-- The definitions of the checks that calls share.
+pub mod Gate

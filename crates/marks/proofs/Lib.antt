@@ -1,0 +1,2 @@
+-- The laws of the marks of a room.
+pub mod Rooms

@@ -1,0 +1,2 @@
+-- The marks of a room.
+pub mod Marks

@@ -1,0 +1,2 @@
+-- The definition of a message's words.
+pub mod Message

@@ -1,0 +1,4 @@
+-- The laws of the limit for a ping.
+pub mod Answers
+pub mod Cases
+pub mod Samples

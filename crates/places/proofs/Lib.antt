@@ -1,0 +1,4 @@
+-- The laws of a step and of reading a capture.
+pub mod Steps
+pub mod Laws
+pub mod Answers

@@ -1,0 +1,2 @@
+-- What a put gives, with the queue.
+mod Queued

@@ -1,0 +1,105 @@
+// What is written to standard output.
+use crate::input::part;
+use bytes::scan::find;
+use libc::STDOUT_FILENO;
+use protocol::Answer;
+use protocol::Called;
+use protocol::Connection;
+use protocol::Session;
+use session::SLOT_SIZE;
+use text::Line;
+use text::first;
+
+fn words(s: &[u8]) {
+    io::write_all(STDOUT_FILENO, s);
+}
+
+fn put(line: Line) {
+    let bytes = line.bytes;
+    let n = line.length;
+    words(first(&bytes, n));
+}
+
+// The digits of at most the first 512 bytes.
+fn put_some(s: &[u8]) {
+    let mut digits = [0u8; 1024];
+    let n = script_words::encode(s, &mut digits);
+    words(first(&digits, 2 * n));
+}
+
+pub(crate) fn script_error(line: u64) {
+    put(Line::new().item(b"script error at line ", line).text(b"\n"));
+}
+
+// The first word of the line that asks for a call is the call's name.
+fn name(line: &[u8]) -> &[u8] {
+    first(line, find(line, 0, line.len(), b' '))
+}
+
+// What a call answers, behind its name.
+fn answered(line: &[u8], answer: Answer, used: usize) -> Line {
+    answer_text::answered(Line::new().text(name(line)), answer, used)
+}
+
+fn end(line: Line, spoiled: bool) {
+    put(line.flag(b" spoiled", spoiled).text(b"\n"));
+}
+
+// The line of a call that wrote something.
+fn wrote(line: Line, s: &[u8], spoiled: bool) {
+    put(line.text(b" wrote "));
+    put_some(s);
+    end(Line::new(), spoiled);
+}
+
+// The line of a call, which the line of a script asks for.
+pub(crate) fn called(line: &[u8], called: Called, room: &[u8], spoiled: bool) {
+    let answer = called.answer;
+    let told = answered(line, answer, called.used);
+    if 0 < called.wrote {
+        wrote(told, first(room, called.wrote), spoiled);
+    } else {
+        end(told, spoiled);
+    }
+}
+
+fn session(n: u8, x: Session) {
+    if report::is_shown(x) {
+        put(report::session_line(n, x).text(b"\n"));
+    }
+}
+
+fn sessions(table: [Session; 128]) {
+    let mut n: u8 = 0;
+    while n < 128 {
+        let i = n as usize;
+        let x = table[i];
+        session(n, x);
+        n += 1;
+    }
+}
+
+// The lines of what stands.
+pub(crate) fn state(c: Connection) {
+    put(report::connection_line(c).text(b"\n"));
+    let table = c.sessions;
+    sessions(table);
+}
+
+fn slot_bytes(s: &[u8]) {
+    if 0 < s.len() {
+        put_some(s);
+        words(b"\n");
+    } else {
+        words(b"none\n");
+    }
+}
+
+// The slot of a session number in the queue.
+pub(crate) fn slot(queue: &[u8], n: u8) {
+    let size = SLOT_SIZE as usize;
+    let from = (n as usize) * size;
+    let most = if n < 128 { from + size } else { from };
+    words(b"queue ");
+    slot_bytes(part(queue, from, most));
+}

@@ -1,0 +1,2 @@
+-- The lines of what stands.
+pub mod States

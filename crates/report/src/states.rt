@@ -1,0 +1,175 @@
+// The words of what stands.
+use protocol::Connection;
+use protocol::Outcome;
+use protocol::Ping;
+use protocol::Session;
+use protocol::Side;
+use protocol::Sides;
+use protocol::Stage;
+use ration::Ration;
+use text::Line;
+use wire::Role;
+ghost use mathlib.Core.Path.{_≡_};
+ghost use mathlib.Core.List.{[]};
+ghost use Rattle.text.specs.Line.{lineText, added};
+ghost use Rattle.report.specs.States.{roleText, stageText, pingText, connectionText, sideText, sidesText, outcomeText, rationText, waitingText, inText, outText, liveText, sessionText, hasOutcome, shownBy};
+
+fn with_role(line: Line, role: Role) -> Line
+    ensures { λ r. ⌜ lineText r ≡ added (lineText line) (roleText role) ⌝ }
+{
+    match role {
+        Role::Client => line.text(b" client"),
+        Role::Server => line.text(b" server"),
+    }
+}
+
+fn with_stage(line: Line, stage: Stage) -> Line
+    ensures { λ r. ⌜ lineText r ≡ added (lineText line) (stageText stage) ⌝ }
+{
+    match stage {
+        Stage::Fresh(role) => with_role(line, role).text(b" fresh"),
+        Stage::Started => line.text(b" client started"),
+        Stage::Up(role, far) => with_role(line, role).item(b" up ", far as u64),
+    }
+}
+
+fn with_ping(line: Line, ping: Ping) -> Line
+    ensures { λ r. ⌜ lineText r ≡ added (lineText line) (pingText ping) ⌝ }
+{
+    match ping {
+        Ping::None => line.text(b" ping none"),
+        Ping::Outstanding(cookie) => line.item(b" ping ", cookie as u64),
+    }
+}
+
+// The line of a connection.
+pub fn connection_line(c: Connection) -> Line
+    ensures { λ r. ⌜ lineText r ≡ added [] (connectionText c) ⌝ }
+{
+    let stage = c.stage;
+    let ping = c.ping;
+    let line = with_stage(Line::new().text(b"connection"), stage)
+        .flag(b" over", c.over)
+        .item(b" last ", c.last as u64);
+    with_ping(line, ping)
+}
+
+fn with_side(line: Line, side: Side) -> Line
+    ensures { λ r. ⌜ lineText r ≡ added (lineText line) (sideText side) ⌝ }
+{
+    match side {
+        Side::Open => line.text(b" open"),
+        Side::Finished => line.text(b" finished"),
+        Side::Ended => line.text(b" ended"),
+    }
+}
+
+fn with_sides(line: Line, sides: Sides) -> Line
+    ensures { λ r. ⌜ lineText r ≡ added (lineText line) (sidesText sides) ⌝ }
+{
+    match sides {
+        Sides::Idle => line.text(b" idle none"),
+        Sides::Opening(_) => line.text(b" opening none"),
+        Sides::Live(ours, theirs) => with_side(with_side(line, ours), theirs),
+    }
+}
+
+fn with_outcome(line: Line, outcome: Outcome) -> Line
+    ensures { λ r. ⌜ lineText r ≡ added (lineText line) (outcomeText outcome) ⌝ }
+{
+    match outcome {
+        Outcome::None => line.text(b" outcome none"),
+        Outcome::Running => line.text(b" outcome running"),
+        Outcome::Complete => line.text(b" outcome complete"),
+        Outcome::MayRetry => line.text(b" outcome retry"),
+        Outcome::MustNotRetry => line.text(b" outcome no-retry"),
+    }
+}
+
+fn with_ration(line: Line, ration: Ration) -> Line
+    ensures { λ r. ⌜ lineText r ≡ added (lineText line) (rationText ration) ⌝ }
+{
+    match ration {
+        Ration::Finite(n) => line.number(n as u64),
+        Ration::Endless => line.text(b"endless"),
+    }
+}
+
+fn with_out(line: Line, ration: Ration) -> Line
+    ensures { λ r. ⌜ lineText r ≡ added (lineText line) (outText ration) ⌝ }
+{
+    with_ration(line.text(b" out "), ration)
+}
+
+fn with_in(line: Line, theirs: Side, ration: Ration) -> Line
+    ensures { λ r. ⌜ lineText r ≡ added (lineText line) (inText theirs ration) ⌝ }
+{
+    match theirs {
+        Side::Open => with_ration(line.text(b" in "), ration),
+        Side::Finished => line.text(b""),
+        Side::Ended => line.text(b""),
+    }
+}
+
+fn with_waiting(line: Line, waiting: u16, finish: bool) -> Line
+    ensures { λ r. ⌜ lineText r ≡ added (lineText line) (waitingText waiting finish) ⌝ }
+{
+    line.item(b" waiting ", waiting as u64)
+        .flag(b" finish", finish)
+}
+
+// The line with what counts of a session with two sides behind its end.
+fn with_live(line: Line, ours: Side, theirs: Side, x: Session) -> Line
+    ensures { λ r. ⌜ lineText r ≡ added (lineText line) (liveText ours theirs x) ⌝ }
+{
+    let outbound = x.outbound;
+    let inbound = x.inbound;
+    match ours {
+        Side::Open => {
+            let rations = with_in(with_out(line, outbound), theirs, inbound);
+            with_waiting(rations, x.waiting, x.finish)
+        }
+        Side::Finished => with_in(line, theirs, inbound),
+        Side::Ended => line.text(b""),
+    }
+}
+
+// The line of a session by its number.
+pub fn session_line(n: u8, x: Session) -> Line
+    ensures { λ r. ⌜ lineText r ≡ added [] (sessionText n x) ⌝ }
+{
+    let sides = x.sides;
+    let outcome = x.outcome;
+    let line = with_sides(Line::new().item(b"session ", n as u64), sides);
+    let told = with_outcome(line, outcome);
+    match sides {
+        Sides::Idle => told.text(b""),
+        Sides::Opening(_) => with_waiting(told, x.waiting, x.finish),
+        Sides::Live(ours, theirs) => with_live(told, ours, theirs, x),
+    }
+}
+
+fn has_outcome(outcome: Outcome) -> bool
+    ensures { λ r. ⌜ r ≡ hasOutcome outcome ⌝ }
+{
+    match outcome {
+        Outcome::None => false,
+        Outcome::Running => true,
+        Outcome::Complete => true,
+        Outcome::MayRetry => true,
+        Outcome::MustNotRetry => true,
+    }
+}
+
+// Whether a session is told of: it is not idle, or has an outcome.
+pub fn is_shown(x: Session) -> bool
+    ensures { λ r. ⌜ r ≡ shownBy (x .sides) (x .outcome) ⌝ }
+{
+    let sides = x.sides;
+    let outcome = x.outcome;
+    match sides {
+        Sides::Idle => has_outcome(outcome),
+        Sides::Opening(_) => true,
+        Sides::Live(_, _) => true,
+    }
+}

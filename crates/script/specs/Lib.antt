@@ -1,0 +1,2 @@
+-- The script language: what a line asks.
+pub mod Calls

@@ -1,0 +1,4 @@
+-- The laws of words, numbers and bytes.
+pub mod Texts
+pub mod Values
+pub mod Digits

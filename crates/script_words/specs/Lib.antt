@@ -1,0 +1,4 @@
+-- The script language: words, numbers and bytes.
+pub mod Words
+pub mod Numbers
+pub mod Hex

@@ -1,0 +1,88 @@
+// Grant: the far end may send more.
+use protocol::Session;
+use protocol::Side;
+use protocol::Sides;
+use ration::Grown;
+use ration::Ration;
+use refusal::Refusal;
+use session::Asked;
+use session::Sent;
+use session::parts::rationed;
+use session::parts::taken;
+ghost use mathlib.Core.Path.{_≡_};
+ghost use mathlib.Core.Bool.{not, _||_, false};
+ghost use Prim.Native.Nat.{_-_};
+ghost use lib.Dec.{eqb, ltb};
+ghost use Rattle.ration.specs.Ration.{grantable};
+ghost use Rattle.protocol.specs.Plan.{check};
+ghost use Rattle.protocol.specs.Message.{increment-of};
+ghost use Rattle.protocol.specs.Session.{extended};
+ghost use Rattle.protocol.specs.Ask.{mayGrant, grantAsk, writing};
+ghost use Rattle.session.specs.Step.{askedAs, toAsked};
+
+// Whether our side is open or finished, and theirs open.
+fn may_grant(sides: Sides) -> bool
+    ensures { λ r. ⌜ r ≡ mayGrant sides ⌝ }
+{
+    match sides {
+        Sides::Idle => false,
+        Sides::Opening(_) => false,
+        Sides::Live(ours, theirs) => match ours {
+            Side::Open => match theirs {
+                Side::Open => true,
+                Side::Finished => false,
+                Side::Ended => false,
+            },
+            Side::Finished => match theirs {
+                Side::Open => true,
+                Side::Finished => false,
+                Side::Ended => false,
+            },
+            Side::Ended => false,
+        },
+    }
+}
+
+// Whether an amount is no 16-bit number above 0.
+fn is_bad_amount(amount: u32) -> bool
+    ensures { λ r. ⌜ r ≡ (eqb amount 0 || ltb 65_535 amount) ⌝ }
+{
+    let none = amount == 0;
+    let large = 65535 < amount;
+    none | large
+}
+
+// Grants an amount, where the inbound ration takes it.
+fn extend(x: Session, amount: u16) -> Asked
+    ensures { λ r. ⌜ askedAs r ≡ toAsked (check (not (grantable (x .inbound) amount)) 7 (writing (increment-of amount) (extended amount x))) ⌝ }
+{
+    let outbound = x.outbound;
+    let inbound = x.inbound;
+    match inbound {
+        Ration::Finite(_) => {
+            let grown = inbound.grow(amount as u32);
+            match grown {
+                Grown::To(more) => {
+                    let next = rationed(x, outbound, more);
+                    taken(next, Sent::Increment(amount))
+                }
+                Grown::PastLargest => Asked::Refused(Refusal::GrantTooLarge),
+            }
+        }
+        Ration::Endless => Asked::Refused(Refusal::GrantTooLarge),
+    }
+}
+
+// Grants the far end more bytes.
+pub fn grant(x: Session, amount: u32) -> Asked
+    ensures { λ r. ⌜ askedAs r ≡ toAsked (grantAsk x amount) ⌝ }
+{
+    let sides = x.sides;
+    if may_grant(sides) {
+        if is_bad_amount(amount) {
+            return Asked::Refused(Refusal::BadValue);
+        }
+        return extend(x, amount as u16);
+    }
+    Asked::Refused(Refusal::WrongState)
+}

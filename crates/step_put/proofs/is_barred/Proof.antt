@@ -1,0 +1,10 @@
+-- `is_barred` meets its contract, from what `sends` ensures.
+use borrow.Author.Needs.{needs}
+use Rattle.step_put.proofs.is_barred.Statement.{statement}
+use Rattle.step_put.proofs.is_barred.Tie as tie
+
+returns : tie.Need-returns
+returns c = cc
+
+pub is-barred-spec : {M : Type 1} → statement M
+is-barred-spec = tie.close (tie.spec (λ c κs. search needs) returns)

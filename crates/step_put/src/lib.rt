@@ -1,0 +1,49 @@
+// Put and finish: bytes wait behind those that wait, and the end of our side is asked for.
+use protocol::Session;
+use refusal::Refusal;
+use session::Asked;
+use session::Sent;
+use session::parts::sends;
+use session::parts::space;
+use session::parts::taken;
+ghost use mathlib.Core.Path.{_≡_};
+ghost use mathlib.Core.Bool.{not, _||_};
+ghost use Prim.Native.Nat.{_-_};
+ghost use Rattle.protocol.specs.Ask.{sends as Ask·sends, putAsk, finishAsk};
+ghost use Rattle.session.specs.Step.{askedAs, toAsked};
+
+// Whether our side is neither opening nor open, or a finish was asked before.
+fn is_barred(x: Session) -> bool
+    ensures { λ r. ⌜ r ≡ (not (Ask·sends (x .sides)) || x .finish) ⌝ }
+{
+    let sides = x.sides;
+    let may = sends(sides);
+    !may | x.finish
+}
+
+// Puts n bytes: they wait behind those that wait already.
+pub fn put(x: Session, n: usize) -> Asked
+    ensures { λ r. ⌜ askedAs r ≡ toAsked (putAsk x n) ⌝ }
+{
+    if is_barred(x) {
+        return Asked::Refused(Refusal::WrongState);
+    }
+    if (space(x.waiting) as usize) < n {
+        return Asked::Refused(Refusal::SlotFull);
+    }
+    let mut next = x;
+    next.waiting = x.waiting + (n as u16);
+    taken(next, Sent::Nothing)
+}
+
+// Asks for the end of our side.
+pub fn finish(x: Session) -> Asked
+    ensures { λ r. ⌜ askedAs r ≡ toAsked (finishAsk x) ⌝ }
+{
+    if is_barred(x) {
+        return Asked::Refused(Refusal::WrongState);
+    }
+    let mut next = x;
+    next.finish = true;
+    taken(next, Sent::Nothing)
+}

@@ -1,0 +1,139 @@
+// A turn for one session: whether it is ready, and the Data message that goes out.
+use protocol::Session;
+use protocol::Side;
+use protocol::Sides;
+use ration::Ration;
+use refusal::Refusal;
+use session::Asked;
+use session::Sent;
+use session::parts::after_data;
+use session::parts::less;
+use session::parts::taken;
+ghost use mathlib.Core.Path.{_≡_};
+ghost use mathlib.Core.Bool.{not, false};
+ghost use Prim.Native.Nat.{_-_};
+ghost use Rattle.protocol.specs.Plan.{check};
+ghost use Rattle.protocol.specs.Ask.{positive as Ask·positive, due as Ask·due, ready as Ask·ready, smaller as Ask·smaller, sending as Ask·sending, turnOf, turnAsk};
+ghost use Rattle.session.specs.Step.{askedAs, toAsked};
+
+// Whether a ration is above 0.
+fn positive(r: Ration) -> bool
+    ensures { λ b. ⌜ b ≡ Ask·positive r ⌝ }
+{
+    match r {
+        Ration::Finite(left) => 0 < left,
+        Ration::Endless => true,
+    }
+}
+
+// Whether bytes wait and the ration is above 0, or none wait and a finish was asked.
+fn due(waiting: u16, outbound: Ration, finish: bool) -> bool
+    ensures { λ r. ⌜ r ≡ Ask·due waiting outbound finish ⌝ }
+{
+    if waiting == 0 {
+        return finish;
+    }
+    positive(outbound)
+}
+
+// Whether a turn may serve the session.
+pub fn ready(x: Session) -> bool
+    ensures { λ r. ⌜ r ≡ Ask·ready x ⌝ }
+{
+    let sides = x.sides;
+    let outbound = x.outbound;
+    match sides {
+        Sides::Idle => false,
+        Sides::Opening(_) => true,
+        Sides::Live(ours, _) => match ours {
+            Side::Open => due(x.waiting, outbound, x.finish),
+            Side::Finished => false,
+            Side::Ended => false,
+        },
+    }
+}
+
+// The smaller of what waits and a ration.
+fn smaller(waiting: u16, r: Ration) -> u16
+    ensures { λ n. ⌜ n ≡ Ask·smaller waiting r ⌝ }
+{
+    match r {
+        Ration::Finite(left) => {
+            if left < waiting as u32 {
+                return left as u16;
+            }
+            waiting
+        }
+        Ration::Endless => waiting,
+    }
+}
+
+// What still waits after n bytes.
+fn left_after(waiting: u16, n: u16) -> u16
+    ensures { λ r. ⌜ r ≡ waiting - n ⌝ }
+{
+    if n <= waiting { waiting - n } else { 0 }
+}
+
+// A Data message of n bytes goes out, and these are the rations.
+fn send(x: Session, opens: bool, theirs: Side, outbound: Ration, inbound: Ration, n: u16) -> Asked
+    ensures { λ r. ⌜ askedAs r ≡ toAsked (Ask·sending x opens theirs outbound inbound n) ⌝ }
+{
+    let left = left_after(x.waiting, n);
+    let none = left == 0;
+    let eof = x.finish & none;
+    let ours = after_data(false, eof);
+    let outcome = x.outcome;
+    let spent = less(outbound, n);
+    let next = Session {
+        sides: Sides::Live(ours, theirs),
+        outbound: spent,
+        inbound,
+        waiting: left,
+        finish: x.finish & !eof,
+        outcome,
+    };
+    taken(
+        next,
+        Sent::Data {
+            length: n,
+            opens,
+            eof,
+        },
+    )
+}
+
+// Serves a session whose own side is open.
+fn turn_open(x: Session, theirs: Side) -> Asked
+    ensures { λ r. ⌜ askedAs r ≡ toAsked (check (not (Ask·due (x .waiting) (x .outbound) (x .finish))) 9 (Ask·sending x false theirs (x .outbound) (x .inbound) (Ask·smaller (x .waiting) (x .outbound)))) ⌝ }
+{
+    let outbound = x.outbound;
+    let inbound = x.inbound;
+    if due(x.waiting, outbound, x.finish) {
+        let n = smaller(x.waiting, outbound);
+        return send(x, false, theirs, outbound, inbound, n);
+    }
+    Asked::Refused(Refusal::NothingReady)
+}
+
+fn turn_of(own: Ration, far: Ration, x: Session, sides: Sides) -> Asked
+    ensures { λ r. ⌜ askedAs r ≡ toAsked (turnOf own far x sides) ⌝ }
+{
+    match sides {
+        Sides::Idle => Asked::Refused(Refusal::NothingReady),
+        Sides::Opening(_) => send(x, true, Side::Open, far, own, smaller(x.waiting, far)),
+        Sides::Live(ours, theirs) => match ours {
+            Side::Open => turn_open(x, theirs),
+            Side::Finished => Asked::Refused(Refusal::NothingReady),
+            Side::Ended => Asked::Refused(Refusal::NothingReady),
+        },
+    }
+}
+
+// Serves a session; `own` and `far` are the starting rations that our header and theirs grant.
+pub fn turn(own: Ration, far: Ration, x: Session) -> Asked
+    ensures { λ r. ⌜ askedAs r ≡ toAsked (turnAsk own far x) ⌝ }
+{
+    let sides = x.sides;
+    turn_of(own, far, x, sides)
+}

@@ -1,0 +1,2 @@
+-- The laws of what header bytes say, which callers cite.
+pub mod Decoding

@@ -1,0 +1,2 @@
+-- The definitions of the answers.
+pub mod Answer

@@ -1,0 +1,28 @@
+// The header that each direction begins with, read and written.
+mod reading;
+mod writing;
+
+pub use reading::parse_connection_header;
+pub use reading::read_connection_header;
+use refusal::Refusal;
+use refusal::Violation;
+pub use writing::write_connection_header;
+
+// What the eight bytes of a connection header say.
+pub enum ParsedHeader {
+    Number(u16),
+    Violated(Violation),
+}
+
+// What connection header stands first in an input.
+pub enum ReadHeader {
+    Number(u16),
+    Incomplete,
+    Violated(Violation),
+}
+
+// What a writer did: the number of bytes it wrote, or why it wrote none.
+pub enum Written {
+    Wrote(usize),
+    Refused(Refusal),
+}

@@ -1,0 +1,2 @@
+-- What the proofs of the flags share.
+pub mod Flags

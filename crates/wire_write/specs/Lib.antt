@@ -1,2 +1,0 @@
--- The definitions of the writer's answers.
-pub mod Answer
