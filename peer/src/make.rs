@@ -6,7 +6,7 @@
 mod alone;
 mod joined;
 
-use crate::engine::Phase;
+use crate::engine::{Phase, NUMBERS};
 use crate::noise;
 use crate::pick;
 use crate::play::{Player, Report};
@@ -128,6 +128,19 @@ fn choose_queue(rng: &mut Rng) -> u32 {
     }
 }
 
+/// Chooses a pool of numbers: mostly few, so that they meet often.
+fn choose_pool(rng: &mut Rng) -> Vec<u8> {
+    match rng.below(10) {
+        0 => (0..NUMBERS as u8).collect(),
+        1 => vec![rng.one_of(&[0, 127, 5])],
+        2 => vec![0, 127],
+        _ => {
+            let count = rng.between(2, 5);
+            (0..count).map(|_| rng.below(128) as u8).collect()
+        }
+    }
+}
+
 /// Chooses how the script is seasoned.
 fn choose_taste(rng: &mut Rng, limit: u64) -> Taste {
     let clean = rng.percent(45);
@@ -165,7 +178,7 @@ impl Maker {
         }
         Maker {
             near: Player::new(&first),
-            pool: pick::pool(&mut rng),
+            pool: choose_pool(&mut rng),
             taste,
             rng,
             text: Vec::new(),
@@ -375,41 +388,4 @@ impl Maker {
 }
 
 #[cfg(test)]
-mod tests {
-    use super::*;
-    use crate::far::Far;
-    use crate::pick::Mood;
-    use crate::session::Outcome;
-
-    #[test]
-    fn the_same_seed_gives_the_same_script() {
-        for seed in 0..40 {
-            assert_eq!(make(seed, 120), make(seed, 120));
-        }
-    }
-
-    /// Two right ends never find a violation in each other's messages.
-    #[test]
-    fn joined_ends_agree() {
-        let mut completed = 0;
-        for seed in 0..300 {
-            let mut maker = Maker::new(Rng::new(seed), Plan::Joined, 400);
-            maker.taste.noise_from = u64::MAX;
-            maker.taste.wild = 0;
-            maker.begin();
-            let header = choose_header(&mut maker.rng);
-            let mut far = Far::new(maker.first.role.other(), header);
-            while maker.more() {
-                maker.joined_step(&mut far, Mood::Busy);
-                assert!(!far.player.engine.over, "far end over, seed {seed}");
-            }
-            assert!(!maker.near.engine.over, "near end over, seed {seed}");
-            let ends = [&maker.near.engine, &far.player.engine];
-            let complete = |session: &&Session| session.outcome == Outcome::Complete;
-            for engine in ends {
-                completed += engine.sessions.iter().filter(complete).count();
-            }
-        }
-        assert!(completed > 100, "only {completed} sessions were complete");
-    }
-}
+mod tests;

@@ -290,7 +290,7 @@ fn long_line(rng: &mut Rng) -> Vec<u8> {
 }
 
 /// First lines that are script errors, each by another rule.
-const BAD_FIRST_LINES: [&[u8]; 20] = [
+pub(crate) const BAD_FIRST_LINES: [&[u8]; 20] = [
     b"client",
     b"client ",
     b"client  4",
@@ -335,7 +335,7 @@ const EDGE_LINES: [&[u8]; 17] = [
 ];
 
 /// Lines that are script errors, each by another rule.
-const BAD_LINES: [&[u8]; 26] = [
+pub(crate) const BAD_LINES: [&[u8]; 26] = [
     b"client 4",
     b"server 0",
     b"start 66001",

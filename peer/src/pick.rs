@@ -1,6 +1,6 @@
 //! Picks random calls and messages, such as fit a connection's state and such as do not.
 
-use crate::engine::{Engine, Phase, NUMBERS};
+use crate::engine::{Engine, Phase};
 use crate::ration::Ration;
 use crate::rng::Rng;
 use crate::script::{Call, Room, LARGEST_PUT};
@@ -45,33 +45,26 @@ pub fn good_call(rng: &mut Rng, engine: &Engine, pool: &[u8], mood: Mood) -> Opt
     (0..6).find_map(|_| try_good_call(rng, engine, pool, mood))
 }
 
-/// Picks a kind of call and gives it if a number fits it.
-fn try_good_call(rng: &mut Rng, engine: &Engine, pool: &[u8], mood: Mood) -> Option<Call> {
-    let busy = |weight: u32| if mood == Mood::Busy { weight } else { 0 };
-    let client = |weight: u32| {
-        if engine.role == Role::Client {
-            weight
-        } else {
-            0
-        }
-    };
-    let server = |weight: u32| {
-        if engine.role == Role::Server {
-            weight
-        } else {
-            0
-        }
-    };
-    let weights = [
-        client(busy(14)),
-        busy(22),
+/// Gives the weights of the calls, in the order of `try_good_call`.
+fn weights_of_calls(role: Role, mood: Mood) -> [u32; 8] {
+    let busy = u32::from(mood == Mood::Busy);
+    let client = u32::from(role == Role::Client);
+    let server = u32::from(role == Role::Server);
+    [
+        14 * client * busy,
+        22 * busy,
         10,
         30,
         10,
-        busy(4),
-        server(14),
-        busy(3),
-    ];
+        4 * busy,
+        14 * server,
+        3 * busy,
+    ]
+}
+
+/// Picks a kind of call and gives it if a number fits it.
+fn try_good_call(rng: &mut Rng, engine: &Engine, pool: &[u8], mood: Mood) -> Option<Call> {
+    let weights = weights_of_calls(engine.role, mood);
     let call = match rng.weighted(&weights) {
         0 => Call::Open {
             id: id_where(rng, engine, pool, Session::may_open)?,
@@ -383,19 +376,6 @@ pub fn brim_increment(engine: &Engine, id: u8) -> Option<Message> {
         shift,
         increment: increment as u16,
     })
-}
-
-/// Gives a pool of numbers: mostly few, so that they meet often.
-pub fn pool(rng: &mut Rng) -> Vec<u8> {
-    match rng.below(10) {
-        0 => (0..NUMBERS as u8).collect(),
-        1 => vec![rng.one_of(&[0, 127, 5])],
-        2 => vec![0, 127],
-        _ => {
-            let count = rng.between(2, 5);
-            (0..count).map(|_| rng.below(128) as u8).collect()
-        }
-    }
 }
 
 /// Tells whether messages may go, that is, whether the headers are exchanged and it is not over.

@@ -1,0 +1,84 @@
+"""Scripts with a line that is none, and some that end oddly and are right, each with the output that every player must give."""
+
+# Four lines, so that a bad line behind them is the fifth.
+BEGUN = b"# A client that has started.\n\nclient 4\nstart\n"
+STARTED = b"start ok wrote 4a6d757801000400\n"
+FRESH = b"connection client fresh last 127 ping none\n"
+MEGABYTE = 1 << 20
+
+# The input of replay is read through a buffer of this size.
+BUFFER = 262144
+
+LONG_NUMBERS = [
+    b"open 1000000000", b"open 18446744073709551621", b"grant 5 1000000000", b"grant 5 4294967297",
+    b"grant 5 " + b"1" * 400, b"start 66001", b"start 0600", b"open 256", b"open 00", b"ping 65536", b"queue 256",
+    b"open +5", b"open -5", b"open 5.0", b"open 0x5",
+]
+
+BAD_HEX = [
+    b"put 5 6", b"put 5 616", b"receive 0", b"put 5 AB", b"put 5 6g", b"put 5 -61", b"put 5 --", b"put 5 0x61",
+    b"put 5 " + b"ab" * 1025, b"receive " + b"ab" * 66001,
+]
+
+MISSING_WORDS = [
+    b"open", b"open ", b"put", b"put 5", b"put 5 ", b"finish", b"grant", b"grant 5", b"abort 5", b"abort 5 600",
+    b"close", b"ping", b"receive", b"receive ", b"queue",
+]
+
+OTHER_WORDS = [
+    b"begin", b"Start", b"star", b"starts", b"client 4", b"server 4", b"lost 1", b"state 1", b"open 5 600",
+    b"put 5 61 600", b"start 1 1", b"abort 5 partly", b"receive - -", b" # no comment",
+]
+
+ODD_BYTES = [
+    b" ", b" start", b"start ", b"put  5 61", b"put\t5 61", b"start\r", b"\0", b"start\0", b"st\0art", b"put 5 61\0",
+    b"open 5\0 600", b"lost\x7f", b"lost\xff", b"\xc3\xa4",
+]
+
+LONG_LINES = [
+    b"a" * MEGABYTE, b" " * MEGABYTE, b"\0" * MEGABYTE, b"receive " + b"ab" * (MEGABYTE // 2),
+    b"put 5 " + b"ab" * (MEGABYTE // 2), b"open " + b"1" * MEGABYTE, b"start" + b" 600" * (MEGABYTE // 4),
+    b"b" * (BUFFER - 1), b"b" * BUFFER, b"b" * (BUFFER + 1),
+]
+
+FIRST_LINES = [
+    b"start", b"state", b"client", b"client ", b"client  4", b" client 4", b"client 4 ", b"client 65536", b"client 04",
+    b"client 1000000000", b"client 4 queue", b"client 4 queue 70001", b"client 4 queue 1 1", b"client 4 600",
+    b"CLIENT 4", b"client 4\r", b"server\t4", b"client\0004", b"c" * MEGABYTE,
+]
+
+
+def wrong(line):
+    return b"script error at line %d\n" % line
+
+
+def bad_lines():
+    """One bad line each, behind good ones and before others, and as the last line with no end."""
+    for line in LONG_NUMBERS + BAD_HEX + MISSING_WORDS + OTHER_WORDS + ODD_BYTES + LONG_LINES:
+        yield BEGUN + line + b"\nstate\nopen\n", STARTED + wrong(5)
+        yield BEGUN + line, STARTED + wrong(5)
+    for line in FIRST_LINES:
+        yield b"#\n" + line + b"\nclient 4\nstate\n", wrong(2)
+        yield line, wrong(1)
+
+
+def good_ends():
+    """What is skipped, and where an input may end: none of these is a fault."""
+    for nothing in (b"", b"\n", b"#", b"\n\n# no line\n", b"#\0\xff\r\n", b"client 4", b"client 4\n"):
+        yield nothing, b""
+    yield b"client 4\nstate", FRESH
+    yield b"client 4\n\n\nstate\n\n#", FRESH
+    yield b"client 4\n" + b"\n" * MEGABYTE + b"open", wrong(MEGABYTE + 2)
+    for length in (BUFFER - 11, BUFFER - 10, BUFFER - 9, BUFFER - 1, BUFFER, BUFFER + 1, MEGABYTE):
+        comment = b"#" * length
+        yield b"client 4\n" + comment + b"\nstate\nopen\n", FRESH + wrong(4)
+        yield comment + b"\nclient 4\nstate\n" + comment, FRESH
+        yield b"client 4\nstate\n" + comment + b"\n" + comment + b"\nlost 1", FRESH + wrong(5)
+    longest = b"receive " + b"00" * 66000 + b" 66000"
+    refused = b"receive refused 22 wrote 08000000\nreceive refused 2\n"
+    yield BEGUN + longest + b"\n" + longest + b"\nopen", STARTED + refused + wrong(7)
+
+
+def cases():
+    yield from bad_lines()
+    yield from good_ends()
