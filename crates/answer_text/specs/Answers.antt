@@ -4,8 +4,8 @@ use mathlib.Core.Bool.{Bool}
 use mathlib.Core.List.{List, _++_}
 use Rattle.refusal.specs.Number.{refusalNumber, violationNumber}
 use Rattle.wire.specs.declared.Message.{Message}
-use Rattle.protocol.specs.declared.Answer.{Answer}
-use Rattle.protocol.specs.declared.Answer.the-variants as answer
+use Rattle.state.specs.declared.Answer.{Answer}
+use Rattle.state.specs.declared.Answer.the-variants as answer
 use Rattle.text.specs.Line.{codes, item, flag}
 use Rattle.message_text.specs.Message.{messageText}
 

@@ -1,6 +1,6 @@
 // The words of an answer, put behind the end of a line of text.
 use message_text::with_message;
-use protocol::Answer;
+use state::Answer;
 use text::Line;
 use wire::Message;
 ghost use mathlib.Core.Path.{_≡_};

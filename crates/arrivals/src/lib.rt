@@ -1,73 +1,24 @@
 // What a message does to our side, late or not, with which reply, where the far side may send it.
-use protocol::Outcome;
-use protocol::Session;
-use protocol::Side;
-use protocol::Sides;
-use ration::Grown;
 use refusal::Violation;
-use session::Sent;
-use session::Taken;
-use session::parts::dropped;
+use replies::Receipt;
+use replies::Received;
+use replies::increment_to;
+use replies::reply;
+use replies::taken;
 use session::parts::less;
 use session::parts::rationed;
 use session::parts::settled;
 use session::parts::sided;
+use state::Outcome;
+use state::Session;
+use state::Side;
+use state::Sides;
 use wire::Role;
-use wire::is_server;
 ghost use mathlib.Core.Path.{_≡_};
-ghost use mathlib.Core.Bool.{not};
-ghost use mathlib.Core.List.{[]};
-ghost use Rattle.laws.specs.Result.{ok};
-ghost use Rattle.ration.specs.Ration.{allows};
-ghost use Rattle.protocol.specs.declared.Side.the-variants.{Open as Side·Open, Finished as Side·Finished};
+ghost use Rattle.state.specs.declared.Side.the-variants.{Open as Side·Open, Finished as Side·Finished};
 ghost use Rattle.protocol.specs.Session.{received as Session·received, to};
-ghost use Rattle.protocol.specs.Receipt.{replying, closed as Receipt·closed, aborted as Receipt·aborted, dataTo, incrementTo, abortTo, closeTo, arriving};
-ghost use Rattle.arrivals.specs.Receipt.{receivedAs, receiptAs, toReceipt};
-
-// A message received for a session: an increment counts by its effective amount.
-pub enum Received {
-    Data {
-        length: u16,
-        opens: bool,
-        close: bool,
-        eof: bool,
-        ack_required: bool,
-    },
-    Increment(u32),
-    Abort(bool),
-    Close,
-    Acknowledgment,
-}
-
-// What a message received comes to for its session.
-pub enum Receipt {
-    Taken(Taken),
-    Violated(Violation),
-}
-
-// The message is taken without a reply.
-pub fn taken(x: Session, late: bool) -> Receipt
-    ensures { λ r. ⌜ receiptAs r ≡ ok (record { session = x; sent = []; late = late }) ⌝ }
-{
-    Receipt::Taken(Taken {
-        session: x,
-        sent: Sent::Nothing,
-        late,
-    })
-}
-
-// A reply Abort ends our side and drops what waited; a server's sets partial.
-fn reply(role: Role, x: Session, theirs: Side) -> Receipt
-    ensures { λ r. ⌜ receiptAs r ≡ toReceipt (replying role theirs x) ⌝ }
-{
-    let next = dropped(sided(x, Sides::Live(Side::Ended, theirs)));
-    let partial = is_server(role);
-    Receipt::Taken(Taken {
-        session: next,
-        sent: Sent::Abort(partial),
-        late: false,
-    })
-}
+ghost use Rattle.protocol.specs.Receipt.{closed as Receipt·closed, aborted as Receipt·aborted, dataTo, abortTo, closeTo, arriving};
+ghost use Rattle.replies.specs.Receipt.{receivedAs, receiptAs, toReceipt};
 
 // The session after Data: a close flag completes it.
 fn closed(x: Session, close: bool) -> Session
@@ -126,32 +77,6 @@ fn data_to(role: Role, x: Session, n: u16, close: bool, ours: Side, theirs: Side
             let next = sided(x, Sides::Live(Side::Ended, theirs));
             taken(closed(next, close), true)
         }
-    }
-}
-
-// An increment to our open side counts; to any other it is late and changes nothing.
-fn increment_to(x: Session, n: u32, ours: Side, theirs: Side) -> Receipt
-    ensures { λ r. ⌜ receiptAs r ≡ toReceipt (incrementTo x n ours theirs) ⌝ }
-{
-    match ours {
-        Side::Open => increment_to_open(x, n, theirs),
-        Side::Finished => taken(sided(x, Sides::Live(Side::Finished, theirs)), true),
-        Side::Ended => taken(sided(x, Sides::Live(Side::Ended, theirs)), true),
-    }
-}
-
-fn increment_to_open(x: Session, n: u32, theirs: Side) -> Receipt
-    ensures { λ r. ⌜ receiptAs r ≡ toReceipt (incrementTo x n Side·Open theirs) ⌝ }
-{
-    let outbound = x.outbound;
-    let inbound = x.inbound;
-    let grown = outbound.grow(n);
-    match grown {
-        Grown::To(more) => {
-            let next = sided(x, Sides::Live(Side::Open, theirs));
-            taken(rationed(next, more, inbound), false)
-        }
-        Grown::PastLargest => Receipt::Violated(Violation::PastLargest),
     }
 }
 

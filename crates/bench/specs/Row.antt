@@ -12,9 +12,10 @@ use Rattle.wire.specs.declared.Role.{Role}
 use Rattle.wire.specs.declared.Message.{Message}
 use Rattle.wire.specs.Message.{bodyLength, readMessage}
 use Rattle.wire.specs.Connection.{readConnectionHeader}
-use Rattle.protocol.specs.declared.Connection.{Connection}
-use Rattle.protocol.specs.declared.Setup.{Setup}
-use Rattle.protocol.specs.Connection.{fresh, at, exchanged, wellFormed}
+use Rattle.state.specs.declared.Connection.{Connection}
+use Rattle.state.specs.declared.Setup.{Setup}
+use Rattle.state.specs.New.{fresh}
+use Rattle.protocol.specs.Connection.{at, exchanged, wellFormed}
 use Rattle.protocol.specs.Judge.{Report}
 use Rattle.protocol.specs.Result.{Given, receiveCall}
 use Rattle.ping_limit.specs.declared.Setting.{Setting}

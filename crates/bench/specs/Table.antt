@@ -9,7 +9,7 @@ use Rattle.ration.specs.declared.Ration.the-variants.{Finite, Endless}
 use Rattle.wire.specs.declared.Role.the-variants.{Client, Server}
 use Rattle.wire.specs.declared.Message.{Message}
 use Rattle.wire.specs.declared.Message.the-variants.{IncrementRation, Abort, Close, Data}
-use Rattle.protocol.specs.declared.Setup.{Setup}
+use Rattle.state.specs.declared.Setup.{Setup}
 use Rattle.protocol.specs.Judge as report
 use Rattle.ping_limit.specs.declared.Setting.{Setting}
 use Rattle.ping_limit.specs.declared.Setting.the-variants.{Measured}

@@ -1,10 +1,10 @@
 -- A connection with one part set.
 use Prim.Native.Nat.{ℕ}
 use lib.ListN.{set}
-use Rattle.protocol.specs.declared.Session.{Session}
-use Rattle.protocol.specs.declared.Stage.{Stage}
-use Rattle.protocol.specs.declared.Ping.{Ping}
-use Rattle.protocol.specs.declared.Connection.{Connection}
+use Rattle.state.specs.declared.Session.{Session}
+use Rattle.state.specs.declared.Stage.{Stage}
+use Rattle.state.specs.declared.Ping.{Ping}
+use Rattle.state.specs.declared.Connection.{Connection}
 
 abbrev pub withSession : Connection → ℕ → Session → Connection
 withSession c n x =

@@ -1,7 +1,7 @@
 // What the stage of a connection tells: the role, whether the headers are exchanged, and the starting rations.
-use protocol::Connection;
-use protocol::Stage;
 use ration::Ration;
+use state::Connection;
+use state::Stage;
 use wire::Role;
 ghost use mathlib.Core.Path.{_≡_};
 ghost use Rattle.protocol.specs.Connection.{roleOf, exchanged as Connection·exchanged, ownStart, farNumber, farStart};

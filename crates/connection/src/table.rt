@@ -1,8 +1,8 @@
 // The session of a number, and a connection with one part set.
-use protocol::Connection;
-use protocol::Ping;
-use protocol::Session;
-use protocol::Stage;
+use state::Connection;
+use state::Ping;
+use state::Session;
+use state::Stage;
 ghost use mathlib.Core.Path.{_≡_};
 ghost use Rattle.protocol.specs.Connection.{at};
 ghost use Rattle.connection.specs.Table.{withSession, withStage, withPing};

@@ -1,9 +1,9 @@
 // How a connection ends, and what becomes of its sessions.
-use protocol::Connection;
-use protocol::Outcome;
-use protocol::Session;
-use protocol::Sides;
 use session::parts::settled;
+use state::Connection;
+use state::Outcome;
+use state::Session;
+use state::Sides;
 ghost use mathlib.Core.Path.{_≡_};
 ghost use mathlib.Core.List.{map};
 ghost use Rattle.protocol.specs.Connection.{unlessSent, ending as Connection·ending, ended as Connection·ended};

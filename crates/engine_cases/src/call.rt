@@ -1,8 +1,8 @@
 // The calls of one end: asked of the engine, and their numbers in words.
 use crate::show;
 use crate::show::item;
-use protocol::Called;
-use protocol::Connection;
+use state::Called;
+use state::Connection;
 
 // A call by its kind: 0 start, 1 open, 2 put, 3 finish, 4 turn, 5 grant, 6 abort, 7 close, 8 ping, 9 shutdown, 10 lost line,
 // 11 receive. The numbers that the kind does not use say nothing; the bytes of a put or a receive are lent beside it.

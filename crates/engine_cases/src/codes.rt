@@ -1,23 +1,15 @@
-// A state in nine letters, which the tables use.
-//
-// 0, the end: c a client, s a server, b one after the other.
-// 1, the stage: f fresh, t started, u up.
-// 2, a mark: o over, p a ping outstanding, l m n last served 128 255 0, w over and last served 128.
-// 3, the sides: . idle; i j k opening after idle, finished, ended; 1 2 3 ours open, 4 5 6 finished, 7 8 9 ended, each with
-//    theirs open, finished, ended.
-// 4 and 5, the rations, outbound and inbound: e endless, or a number.
-// 6, how many bytes wait. 7, f where finish is asked. 8, the session's number.
+// States and numbers by the letters that the tables use; the head of the file stdin lists them.
 use crate::show::find;
 use connection::with_session;
-use protocol::Before;
-use protocol::Connection;
-use protocol::Outcome;
-use protocol::Ping;
-use protocol::Session;
-use protocol::Side;
-use protocol::Sides;
-use protocol::Stage;
 use ration::Ration;
+use state::Before;
+use state::Connection;
+use state::Outcome;
+use state::Ping;
+use state::Session;
+use state::Side;
+use state::Sides;
+use state::Stage;
 use wire::Role;
 
 // The numbers of the letters 1 to 9 and a to f, then those of the marks - o p l w m, then those of the capital letters.
@@ -115,8 +107,16 @@ fn stage_of(role: Role, b: u8) -> Stage {
     match b {
         b'f' => Stage::Fresh(role),
         b't' => Stage::Started,
+        b'v' => Stage::Up(role, 1),
         _ => Stage::Up(role, 4),
     }
+}
+
+fn own_of(stage: u8) -> u16 {
+    if stage == b'v' {
+        return 1;
+    }
+    4
 }
 
 fn ping_of(b: u8) -> Ping {
@@ -137,14 +137,14 @@ fn session_of(code: &[u8]) -> Session {
     }
 }
 
-// An end whose header number is 4, as the far one's is.
+// An end whose header number is the far one's too.
 pub(crate) fn state_of(role: Role, code: &[u8]) -> Connection {
     let mark = letter(code, 2);
     let c = Connection {
         sessions: [Session::BLANK; 128],
         stage: stage_of(role, letter(code, 1)),
         over: (mark == b'o') | (mark == b'w'),
-        own: 4,
+        own: own_of(letter(code, 1)),
         last: small(code, 2),
         ping: ping_of(mark),
     };

@@ -2,15 +2,15 @@
 use crate::show;
 use connection::role_of;
 use connection::session_at;
-use protocol::Before;
-use protocol::Connection;
-use protocol::Outcome;
-use protocol::Ping;
-use protocol::Session;
-use protocol::Side;
-use protocol::Sides;
-use protocol::Stage;
 use ration::Ration;
+use state::Before;
+use state::Connection;
+use state::Outcome;
+use state::Ping;
+use state::Session;
+use state::Side;
+use state::Sides;
+use state::Stage;
 use wire::Role;
 
 fn side_code(side: Side) -> u8 {

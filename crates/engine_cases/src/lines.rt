@@ -11,10 +11,10 @@ use answer_text::answered;
 use connection::role_of;
 use connection::session_at;
 use marks::is_filled;
-use protocol::Answer;
-use protocol::Called;
-use protocol::Connection;
-use protocol::Stage;
+use state::Answer;
+use state::Called;
+use state::Connection;
+use state::Stage;
 use text::Line;
 use text::first;
 
@@ -122,7 +122,7 @@ pub(crate) fn line(b: Bench, asked: Call, bytes: &[u8]) -> Bench {
     }
 }
 
-// The first bytes of slot 5 and its last one, each with its neighbour in the next slot.
+// The first bytes of slot 5 with the one before them, and its last byte with the one behind it.
 pub(crate) fn slot_5(queue: &[u8]) {
     say(show::SLOT_5);
     show::part(queue, 1279, 1284);

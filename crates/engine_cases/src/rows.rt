@@ -6,8 +6,8 @@ use crate::show;
 use crate::show::item;
 use crate::show::say;
 use marks::is_filled;
-use protocol::Answer;
-use protocol::Connection;
+use state::Answer;
+use state::Connection;
 
 // The session number that is asked for, and how many bytes of room and queue are lent.
 pub(crate) struct Lent {

@@ -15,7 +15,7 @@ use crate::rows::row;
 use crate::show;
 use crate::show::find;
 use crate::show::rest;
-use protocol::Connection;
+use state::Connection;
 use wire::Role;
 
 // What three letters lend to a row: the session number to ask for, and how many bytes of room and of queue.
@@ -102,22 +102,37 @@ fn put_full(b: Bench) -> Bench {
     line(line(b, asked, &too_long), asked, &full)
 }
 
-// A line of a run: a new end, puts of a full slot, a look at a slot or a fate, or a call with its bytes.
+// An open Data message of 256 bytes and a number more.
+fn open_long(b: Bench, more: u8) -> Bench {
+    let mut bytes = [0u8; 261];
+    bytes[0] = 0x90;
+    bytes[2] = 1;
+    bytes[3] = more;
+    line(b, call::each(call::RECEIVE, 0), &bytes)
+}
+
+// A line of a run: a new end, puts or a receipt that fill a slot, a look at a slot or a fate, or a call with its bytes.
 fn run_line(b: Bench, text: &[u8]) -> Bench {
     let c = b.connection;
     let queue = b.queue;
     match letter(text, 0) {
         b'@' => return on_bench(end_of(rest(text, 4))),
         b'!' => return put_full(b),
-        b'#' => slot_5(&queue),
+        b'%' => return open_long(b, small(text, 1)),
+        b'?' => slot_5(&queue),
         b'=' => fate(c, small(text, 1)),
         _ => return put_call(b, call_of(text), rest(text, 4)),
     }
     b
 }
 
-// A line of a table: of a run by a space in the fourth place, of a receipt by one in the tenth, or else a row.
+// A line of a table: of a run by a space in the fourth place, of a receipt by one in the tenth, or else a row. A comment
+// and an empty line are passed over.
 fn put(b: Bench, text: &[u8]) -> Bench {
+    let start = letter(text, 0);
+    if (start == b'#') | (start == b' ') {
+        return b;
+    }
     if letter(text, 3) == b' ' {
         return run_line(b, text);
     }

@@ -2,16 +2,16 @@
 use connection::with_session;
 use connection::with_stage;
 use formed::well_formed;
-use protocol::Answer;
-use protocol::Called;
-use protocol::Connection;
-use protocol::Outcome;
-use protocol::Session;
-use protocol::Setup;
-use protocol::Side;
-use protocol::Sides;
-use protocol::Stage;
 use ration::Ration;
+use state::Answer;
+use state::Called;
+use state::Connection;
+use state::Outcome;
+use state::Session;
+use state::Setup;
+use state::Side;
+use state::Sides;
+use state::Stage;
 use wire::Role;
 
 const ROUNDS: u64 = 100000;

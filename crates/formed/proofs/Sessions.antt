@@ -11,10 +11,10 @@ use Rattle.laws.proofs.Tests.{and-first, and-second}
 use Rattle.ration.specs.Ration.{inRange}
 use Rattle.wire.specs.declared.Role.{Role}
 use Rattle.wire.specs.Message.{onlyIf}
-use Rattle.protocol.specs.declared.Session.{Session}
-use Rattle.protocol.specs.declared.Connection.{Connection}
+use Rattle.state.specs.declared.Session.{Session}
+use Rattle.state.specs.declared.Connection.{Connection}
 use Rattle.protocol.specs.Slot.{slotSize}
-use Rattle.protocol.specs.Session.{blank}
+use Rattle.state.specs.New.{blank}
 use Rattle.protocol.specs.Ask.{sends}
 use Rattle.protocol.specs.Connection.{at, roleOf, exchanged, placed, sessionFormed, allFormed, wellFormed}
 

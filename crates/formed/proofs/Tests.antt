@@ -7,8 +7,8 @@ use native.Mathlib.Numerals.{add-one}
 use lib.ListN.{length, getD, drop, drop-of-length-le}
 use lib.Seq.{drop-cons}
 use Rattle.wire.specs.declared.Role.{Role}
-use Rattle.protocol.specs.declared.Session.{Session}
-use Rattle.protocol.specs.Session.{blank}
+use Rattle.state.specs.declared.Session.{Session}
+use Rattle.state.specs.New.{blank}
 use Rattle.protocol.specs.Connection.{sessionFormed, allFormed}
 
 -- what is left of the table decides: one step by the test of its first session, and the end

@@ -1,11 +1,11 @@
 // Whether a connection is well formed: a test of each of its 128 sessions.
 use connection::exchanged;
 use connection::role_of;
-use protocol::Connection;
-use protocol::Session;
-use protocol::Sides;
 use session::SLOT_SIZE;
 use session::parts::sends;
+use state::Connection;
+use state::Session;
+use state::Sides;
 use wire::Role;
 use wire::is_client;
 ghost use mathlib.Core.Path.{_≡_};

@@ -1,8 +1,8 @@
 // The checks that calls share, in their order: the state, the headers, the room, the number.
 use connection::exchanged;
 use formed::well_formed;
-use protocol::Connection;
 use refusal::Refusal;
+use state::Connection;
 ghost use mathlib.Core.Path.{_≡_};
 ghost use Rattle.refusal.specs.Number.{refusalNumber};
 ghost use Rattle.protocol.specs.Plan.{take};

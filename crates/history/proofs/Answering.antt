@@ -11,11 +11,11 @@ use borrow.Author.Tests.{leb-false}
 use Rattle.laws.specs.Result.{Result, ok}
 use Rattle.laws.proofs.Tests.{not-false}
 use Rattle.wire.specs.Message.{isClient, isServer}
-use Rattle.protocol.specs.declared.Stage.{Stage}
-use Rattle.protocol.specs.declared.Stage.the-variants as stage
-use Rattle.protocol.specs.declared.Ping.{Ping}
-use Rattle.protocol.specs.declared.Ping.the-variants as waiting
-use Rattle.protocol.specs.declared.Setup.{Setup}
+use Rattle.state.specs.declared.Stage.{Stage}
+use Rattle.state.specs.declared.Stage.the-variants as stage
+use Rattle.state.specs.declared.Ping.{Ping}
+use Rattle.state.specs.declared.Ping.the-variants as waiting
+use Rattle.state.specs.declared.Setup.{Setup}
 use Rattle.protocol.specs.Slot.{queueSize, turnRoom}
 use Rattle.protocol.specs.Queue.{slot}
 use Rattle.protocol.specs.Plan.{Plan, stop, check, take, settle, andThen}

@@ -13,7 +13,7 @@ use Rattle.laws.proofs.Results.{ok-same, refused-same, refused-not-ok}
 use Rattle.laws.proofs.Tests.{true-false}
 use Rattle.wire.specs.Message as wire
 use Rattle.wire.specs.Message.{readMessage}
-use Rattle.protocol.specs.declared.Setup.{Setup}
+use Rattle.state.specs.declared.Setup.{Setup}
 use Rattle.protocol.specs.Queue.{slot}
 use Rattle.protocol.specs.Message.{numbered}
 use Rattle.protocol.specs.Receipt.{Taken}

@@ -4,7 +4,7 @@ use mathlib.Core.Bool.{Bool}
 use mathlib.Core.List.{List}
 use Prim.Native.Nat.{ℕ}
 use lib.ListN.{length}
-use Rattle.protocol.specs.declared.Connection.{Connection}
+use Rattle.state.specs.declared.Connection.{Connection}
 use Rattle.protocol.specs.Judge.{Decision, refuse, violate, accept}
 use Rattle.protocol.specs.Result.{Given, given, writtenBy, over, startCall, openCall, putCall, finishCall, turnCall, grantCall, abortCall, closeCall, pingCall, shutdownCall, lostCall, receiveCall}
 use Rattle.history.specs.Log.{Call, start, open-session, put, finish, turn, grant, abort, close, shutdown, lost, receive, roomOf, State, decide, payloadOf, next, out}

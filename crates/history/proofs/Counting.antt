@@ -12,13 +12,13 @@ use Rattle.ration.specs.declared.Ration.{Ration}
 use Rattle.ration.specs.Ration.{fromHeader}
 use Rattle.wire.specs.declared.Message.the-variants as msg
 use Rattle.wire.specs.Message.{readMessage}
-use Rattle.protocol.specs.declared.Side.{Side}
-use Rattle.protocol.specs.declared.Side.the-variants as side
-use Rattle.protocol.specs.declared.Before.the-variants as before
-use Rattle.protocol.specs.declared.Sides.{Sides}
-use Rattle.protocol.specs.declared.Sides.the-variants as sides
-use Rattle.protocol.specs.declared.Session.{Session}
-use Rattle.protocol.specs.declared.Setup.{Setup}
+use Rattle.state.specs.declared.Side.{Side}
+use Rattle.state.specs.declared.Side.the-variants as side
+use Rattle.state.specs.declared.Before.the-variants as before
+use Rattle.state.specs.declared.Sides.{Sides}
+use Rattle.state.specs.declared.Sides.the-variants as sides
+use Rattle.state.specs.declared.Session.{Session}
+use Rattle.state.specs.declared.Setup.{Setup}
 use Rattle.protocol.specs.Queue.{slot}
 use Rattle.protocol.specs.Message.{data-of, scope}
 use Rattle.protocol.specs.Connection.{at, roleOf, farStart}

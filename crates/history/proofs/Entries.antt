@@ -5,7 +5,7 @@ use Prim.Native.Nat.{ℕ}
 use native.Mathlib.Omega.{arith}
 use Rattle.laws.specs.Runs.{logOf}
 use Rattle.laws.proofs.Runs.{log-split, Split}
-use Rattle.protocol.specs.declared.Setup.{Setup}
+use Rattle.state.specs.declared.Setup.{Setup}
 use Rattle.history.specs.Log.{Call, State, Entry, next, out, made}
 use Rattle.history.specs.Log as log
 

@@ -14,9 +14,9 @@ use Rattle.laws.proofs.Tests.{and-first, and-second, and-both, not-true, or-fir
 use Rattle.wire.specs.declared.Role.{Role}
 use Rattle.wire.specs.FirstByte.{kindOf}
 use Rattle.wire.specs.Message.{readMessage, parseHeader, typed, allowed}
-use Rattle.protocol.specs.declared.Stage.{Stage}
-use Rattle.protocol.specs.declared.Stage.the-variants as stage
-use Rattle.protocol.specs.declared.Setup.{Setup}
+use Rattle.state.specs.declared.Stage.{Stage}
+use Rattle.state.specs.declared.Stage.the-variants as stage
+use Rattle.state.specs.declared.Setup.{Setup}
 use Rattle.protocol.specs.Queue.{slot}
 use Rattle.protocol.specs.Connection.{at, farStart, ended}
 use Rattle.protocol.specs.Judge.{Out, Ending, goes-on, ends, Effect, Decision, refuse, violate, accept, continued, errorAfter}

@@ -11,9 +11,9 @@ use Rattle.laws.specs.Runs.{fold, Every}
 use Rattle.laws.proofs.Runs.{Move}
 use Rattle.ration.specs.declared.Ration.{Ration}
 use Rattle.ration.specs.Ration.{fromHeader}
-use Rattle.protocol.specs.declared.Stage.{Stage}
-use Rattle.protocol.specs.declared.Setup.{Setup}
-use Rattle.protocol.specs.declared.Connection.{Connection}
+use Rattle.state.specs.declared.Stage.{Stage}
+use Rattle.state.specs.declared.Setup.{Setup}
+use Rattle.state.specs.declared.Connection.{Connection}
 use Rattle.protocol.specs.Queue.{slot}
 use Rattle.protocol.specs.Receipt.{Taken}
 use Rattle.protocol.specs.Connection.{Cause, at, roleOf, exchanged, farNumber, farStart}

@@ -8,10 +8,10 @@ use lib.Dec.{leb}
 use borrow.Author.Tests.{ltb-true, leb-true}
 use Rattle.laws.specs.Result.{ok, refused, violation}
 use Rattle.laws.proofs.Results.{refused-same, violation-same, refused-not-ok, violation-not-ok, violation-not-refused}
-use Rattle.protocol.specs.declared.Connection.{Connection}
-use Rattle.protocol.specs.declared.Session.{Session}
-use Rattle.protocol.specs.declared.Stage.{Stage}
-use Rattle.protocol.specs.declared.Stage.the-variants as stage
+use Rattle.state.specs.declared.Connection.{Connection}
+use Rattle.state.specs.declared.Session.{Session}
+use Rattle.state.specs.declared.Stage.{Stage}
+use Rattle.state.specs.declared.Stage.the-variants as stage
 use Rattle.protocol.specs.Plan.{Plan, settle}
 use Rattle.protocol.specs.Connection.{Cause, shutdown-received, error-received, own-shutdown, line-lost, at, wellFormed, ending, ended}
 use Rattle.protocol.specs.Judge.{Report, done, served, header, message, Effect, Breach, Decision, refuse, violate, accept, errorAfter}

@@ -16,12 +16,6 @@ pub mod Bounded
 pub mod Leaves
 pub mod Reading
 pub mod Taking
-pub mod Played
-pub mod Case6
-pub mod ServerRun
-pub mod Lapses
-pub mod Filling
-pub mod Full
 pub mod Speaking
 pub mod Balances
 pub mod Counting

@@ -10,7 +10,7 @@ use borrow.Author.Tests.{leb-false, ltb-false, eqb-true}
 use Rattle.laws.proofs.Circle.{nearest-lt, nearest-found}
 use Rattle.laws.specs.Circle.{gap}
 use Rattle.laws.proofs.Tests.{not-false}
-use Rattle.protocol.specs.declared.Session.{Session}
+use Rattle.state.specs.declared.Session.{Session}
 use Rattle.protocol.specs.Slot.{slotSize, queueSize}
 use Rattle.protocol.specs.Queue.{slot, putSlot, turnSlot}
 use Rattle.protocol.specs.Session.{queued}

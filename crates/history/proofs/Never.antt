@@ -5,7 +5,7 @@ use Prim.Native.Nat.{ℕ}
 use lib.Dec.{ltb}
 use Rattle.laws.specs.Result.{refused}
 use Rattle.laws.proofs.Results.{refused-same, refused-not-ok, violation-not-refused}
-use Rattle.protocol.specs.declared.Setup.{Setup}
+use Rattle.state.specs.declared.Setup.{Setup}
 use Rattle.protocol.specs.Judge.{Decision, refuse, violate, accept}
 use Rattle.history.specs.Log.{Call, State, decide, outBy, out}
 use Rattle.history.proofs.Good.{Ok}

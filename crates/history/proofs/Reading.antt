@@ -16,10 +16,10 @@ use Rattle.wire.specs.declared.Message.{Message}
 use Rattle.wire.specs.Message.{readMessage}
 use Rattle.wire.specs.Connection.{readConnectionHeader, parseConnectionHeader}
 use Rattle.wire.proofs.Laws.{message-holds}
-use Rattle.protocol.specs.declared.Stage.{Stage}
-use Rattle.protocol.specs.declared.Stage.the-variants as stage
-use Rattle.protocol.specs.declared.Setup.{Setup}
-use Rattle.protocol.specs.declared.Connection.{Connection}
+use Rattle.state.specs.declared.Stage.{Stage}
+use Rattle.state.specs.declared.Stage.the-variants as stage
+use Rattle.state.specs.declared.Setup.{Setup}
+use Rattle.state.specs.declared.Connection.{Connection}
 use Rattle.protocol.specs.Plan.{Plan, check, settle}
 use Rattle.protocol.specs.Plan as plan
 use Rattle.protocol.specs.Connection.{roleOf, exchanged, wellFormed}

@@ -19,11 +19,11 @@ use Rattle.wire.specs.declared.Message.the-variants as msg
 use Rattle.wire.specs.Message.{isServer, readMessage, secondByte, maySend, kindOfMessage, flagsAllowed, dataFlags}
 use Rattle.wire.specs.Connection.{readConnectionHeader}
 use Rattle.wire.proofs.Bounds.{Sent, message-sent, header-number}
-use Rattle.protocol.specs.declared.Session.{Session}
-use Rattle.protocol.specs.declared.Stage.{Stage}
-use Rattle.protocol.specs.declared.Stage.the-variants as stage
-use Rattle.protocol.specs.declared.Ping.{Ping}
-use Rattle.protocol.specs.declared.Ping.the-variants as ping
+use Rattle.state.specs.declared.Session.{Session}
+use Rattle.state.specs.declared.Stage.{Stage}
+use Rattle.state.specs.declared.Stage.the-variants as stage
+use Rattle.state.specs.declared.Ping.{Ping}
+use Rattle.state.specs.declared.Ping.the-variants as ping
 use Rattle.protocol.specs.Queue.{slot}
 use Rattle.protocol.specs.Plan.{Plan, settle}
 use Rattle.protocol.specs.Message.{SessionMessage, Scope, whole, of-session, scope, numbered}

@@ -12,9 +12,9 @@ use Rattle.wire.specs.declared.Message.{Message}
 use Rattle.wire.specs.Message.{readMessage}
 use Rattle.wire.specs.Connection.{readConnectionHeader}
 use Rattle.wire.proofs.Bounds.{ShortOnly, message-short, header-short}
-use Rattle.protocol.specs.declared.Stage.{Stage}
-use Rattle.protocol.specs.declared.Stage.the-variants as stage
-use Rattle.protocol.specs.declared.Connection.{Connection}
+use Rattle.state.specs.declared.Stage.{Stage}
+use Rattle.state.specs.declared.Stage.the-variants as stage
+use Rattle.state.specs.declared.Connection.{Connection}
 use Rattle.protocol.specs.Plan.{Plan, check, settle, andThen}
 use Rattle.protocol.specs.Message.{Scope, whole, of-session, scope}
 use Rattle.protocol.specs.Receipt.{Taken, receipt}

@@ -12,12 +12,12 @@ use Rattle.laws.specs.Runs.{run, logOf, fold}
 use Rattle.laws.proofs.Tests.{and-both}
 use Rattle.ration.specs.declared.Ration.{Ration}
 use Rattle.wire.specs.declared.Role.{Role}
-use Rattle.protocol.specs.declared.Session.{Session}
-use Rattle.protocol.specs.declared.Setup.{Setup}
-use Rattle.protocol.specs.declared.Connection.{Connection}
+use Rattle.state.specs.declared.Session.{Session}
+use Rattle.state.specs.declared.Setup.{Setup}
+use Rattle.state.specs.declared.Connection.{Connection}
 use Rattle.protocol.specs.Queue.{slot}
-use Rattle.protocol.specs.Session.{blank}
-use Rattle.protocol.specs.Connection.{Cause, shutdown-received, error-received, own-shutdown, line-lost, at, roleOf, exchanged, farStart, allFormed, wellFormed, ending, ended, fresh}
+use Rattle.state.specs.New.{blank, fresh}
+use Rattle.protocol.specs.Connection.{Cause, shutdown-received, error-received, own-shutdown, line-lost, at, roleOf, exchanged, farStart, allFormed, wellFormed, ending, ended}
 use Rattle.protocol.specs.Judge.{Ending, goes-on, ends, Effect, Breach, Decision, refuse, violate, accept, continued}
 use Rattle.protocol.specs.Observed.{observe}
 use Rattle.protocol.proofs.Views.{start-told, look, Formed, formed-is}

@@ -12,9 +12,9 @@ use Rattle.wire.specs.declared.Role.the-variants as role
 use Rattle.wire.specs.Message.{isServer}
 use Rattle.protocol.specs.Call.{unstarted}
 use Rattle.wire.specs.declared.Message.the-variants as msg
-use Rattle.protocol.specs.declared.Stage.{Stage}
-use Rattle.protocol.specs.declared.Stage.the-variants as stage
-use Rattle.protocol.specs.declared.Setup.{Setup}
+use Rattle.state.specs.declared.Stage.{Stage}
+use Rattle.state.specs.declared.Stage.the-variants as stage
+use Rattle.state.specs.declared.Setup.{Setup}
 use Rattle.protocol.specs.Connection.{roleOf}
 use Rattle.protocol.specs.Judge.{Out, opening, sent, Breach, Decision, refuse, violate, accept, errorAfter}
 use Rattle.protocol.specs.Result.{bytesOfAll}

@@ -14,10 +14,10 @@ use Rattle.wire.specs.declared.Message.{Message}
 use Rattle.wire.specs.declared.Message.the-variants as msg
 use Rattle.wire.specs.Message.{readMessage}
 use Rattle.wire.proofs.Bounds.{Sent, message-sent}
-use Rattle.protocol.specs.declared.Stage.{Stage}
-use Rattle.protocol.specs.declared.Stage.the-variants as stage
-use Rattle.protocol.specs.declared.Setup.{Setup}
-use Rattle.protocol.specs.declared.Connection.{Connection}
+use Rattle.state.specs.declared.Stage.{Stage}
+use Rattle.state.specs.declared.Stage.the-variants as stage
+use Rattle.state.specs.declared.Setup.{Setup}
+use Rattle.state.specs.declared.Connection.{Connection}
 use Rattle.protocol.specs.Queue.{slot}
 use Rattle.protocol.specs.Plan.{Plan, settle}
 use Rattle.protocol.specs.Message.{SessionMessage, Scope, whole, of-session, scope}

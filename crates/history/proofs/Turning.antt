@@ -14,11 +14,11 @@ use Rattle.laws.proofs.Runs.{Move, still, serves}
 use Rattle.laws.proofs.Tests.{true-false}
 use Rattle.ration.specs.declared.Ration.{Ration}
 use Rattle.wire.specs.Message as wire
-use Rattle.protocol.specs.declared.Sides.{Sides}
-use Rattle.protocol.specs.declared.Sides.the-variants as sides
-use Rattle.protocol.specs.declared.Side.the-variants as side
-use Rattle.protocol.specs.declared.Session.{Session}
-use Rattle.protocol.specs.declared.Setup.{Setup}
+use Rattle.state.specs.declared.Sides.{Sides}
+use Rattle.state.specs.declared.Sides.the-variants as sides
+use Rattle.state.specs.declared.Side.the-variants as side
+use Rattle.state.specs.declared.Session.{Session}
+use Rattle.state.specs.declared.Setup.{Setup}
 use Rattle.protocol.specs.Slot.{queueSize, turnRoom}
 use Rattle.protocol.specs.Queue.{slot}
 use Rattle.protocol.specs.Plan.{Plan, check, settle}

@@ -8,7 +8,7 @@ use lib.Dec.{eqb, ltb, leb}
 use Rattle.laws.specs.Result.{Result, ok, refused}
 use Rattle.wire.specs.declared.Role.{Role}
 use Rattle.wire.specs.Message.{isClient, isServer}
-use Rattle.protocol.specs.declared.Setup.{Setup}
+use Rattle.state.specs.declared.Setup.{Setup}
 use Rattle.protocol.specs.Slot.{queueSize, turnRoom}
 use Rattle.protocol.specs.Judge.{Report, done}
 use Rattle.protocol.specs.Observed.{Greeting, no-header, own-header, both-headers, greeted, Pinging, no-ping, pinged}

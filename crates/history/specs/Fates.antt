@@ -5,7 +5,7 @@ use Rattle.laws.specs.Result.{Result, ok, refused, violation}
 use Rattle.laws.specs.Runs.{fold}
 use Rattle.wire.specs.declared.Message.{Message}
 use Rattle.wire.specs.declared.Message.the-variants as msg
-use Rattle.protocol.specs.declared.Setup.{Setup}
+use Rattle.state.specs.declared.Setup.{Setup}
 use Rattle.protocol.specs.Judge.{Report, done, served, header, message}
 use Rattle.protocol.specs.Asked.{isUnsent}
 use Rattle.protocol.specs.Fate.{Fate, no-fate, fateAfter, Ended, not-ended, by-shutdown, by-error, by-own-shutdown, by-lost-line, fateEnded}

@@ -5,9 +5,10 @@ use mathlib.Core.List.{List, []}
 use lib.ListN.{length}
 use Rattle.laws.specs.Result.{Result}
 use Rattle.laws.specs.Runs
-use Rattle.protocol.specs.declared.Connection.{Connection}
-use Rattle.protocol.specs.declared.Setup.{Setup}
-use Rattle.protocol.specs.Connection.{fresh, at}
+use Rattle.state.specs.declared.Connection.{Connection}
+use Rattle.state.specs.declared.Setup.{Setup}
+use Rattle.state.specs.New.{fresh}
+use Rattle.protocol.specs.Connection.{at}
 use Rattle.protocol.specs.Judge.{Report, Decision}
 use Rattle.protocol.specs.Queue.{slot, withSlot, putSlot}
 use Rattle.protocol.specs.Call.{startRule, openRule, putRule, finishRule, turnRule, grantRule, abortRule, closeRule, pingRule, shutdownRule, lostRule, receiveRule}

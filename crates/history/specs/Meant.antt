@@ -12,7 +12,7 @@ use Rattle.wire.specs.declared.Message.{Message}
 use Rattle.wire.specs.declared.Message.the-variants as msg
 use Rattle.wire.specs.Message.{isClient, isServer, bodyLength, readMessage}
 use Rattle.wire.specs.Connection.{readConnectionHeader}
-use Rattle.protocol.specs.declared.Setup.{Setup}
+use Rattle.state.specs.declared.Setup.{Setup}
 use Rattle.protocol.specs.Message.{SessionMessage, increment-of, abort-of, close-of, Scope, whole, of-session, scope, numbered}
 use Rattle.protocol.specs.Judge.{Report, done, served, header, message, Out, opening, sent}
 use Rattle.protocol.specs.Observed.{Greeting, no-header, own-header, both-headers, greeted, Seen, repliesTo, dueData, mayWrite, fromRole}

@@ -4,7 +4,7 @@ use mathlib.Core.List.{List, []}
 use lib.ListN.{drop}
 use Rattle.laws.specs.Runs.{fold}
 use Rattle.ration.specs.Ration.{fromHeader}
-use Rattle.protocol.specs.declared.Setup.{Setup}
+use Rattle.state.specs.declared.Setup.{Setup}
 use Rattle.protocol.specs.Totals.{blankLedger, Totals, addUp}
 use Rattle.history.specs.Log.{Entry}
 use Rattle.history.specs.Account.{Line, lineAfter, events, blankAccount, farOf}

@@ -8,24 +8,25 @@ use Rattle.ration.specs.declared.Ration.{Ration}
 use Rattle.wire.specs.declared.Role.{Role}
 use Rattle.wire.specs.declared.Message.{Message}
 use Rattle.wire.specs.declared.Message.the-variants as msg
-use Rattle.protocol.specs.declared.Session.{Session}
-use Rattle.protocol.specs.declared.Connection.{Connection}
-use Rattle.protocol.specs.declared.Ping.the-variants as ping
+use Rattle.state.specs.declared.Session.{Session}
+use Rattle.state.specs.declared.Connection.{Connection}
+use Rattle.state.specs.declared.Ping.the-variants as ping
 use Rattle.protocol.specs.Plan.{Plan, stop, check, take, settle}
 use Rattle.protocol.specs.Message.{SessionMessage, whole, of-session, numbered}
-use Rattle.protocol.specs.Session.{blank}
+use Rattle.state.specs.New.{blank}
 use Rattle.protocol.specs.Receipt as rule
 use Rattle.protocol.specs.Connection.{shutdown-received, error-received, at, roleOf, ownStart, farStart, ended}
 use Rattle.protocol.specs.Judge.{Report, message, Out, sent, Effect, accept, unchanged, with-ping, with-session, breach, commit, matches, judgeScope}
 use Rattle.session.specs.declared.Taken.{Taken}
 use Rattle.session.specs.Step.{sentAs}
-use Rattle.arrivals.specs.declared.Receipt.{Receipt}
-use Rattle.arrivals.specs.declared.Receipt.the-variants as receipt
-use Rattle.arrivals.specs.Receipt.{receiptAs, toReceipt}
+use Rattle.replies.specs.declared.Receipt.{Receipt}
+use Rattle.replies.specs.declared.Receipt.the-variants as receipt
+use Rattle.replies.specs.Receipt.{receiptAs, toReceipt}
 use Rattle.connection.specs.Table.{withSession, withPing}
 use lib.Seq.{set-getD}
 use Rattle.results.proofs.Calls.{sets-ping, sets-end}
-use Rattle.judge.specs.Verdict.{Verdict, verdict, judgedBy}
+use Rattle.verdicts.specs.Verdict.{Verdict, verdict}
+use Rattle.judge.specs.Scope.{judgedBy}
 
 -- a message taken, with the connection after it
 abbrev pub took : Connection → Message → Bool → List Out → Verdict

@@ -1,2 +1,2 @@
--- The definitions of what a receive comes to before anything is written.
-pub mod Verdict
+-- The definitions of whom a message concerns, and what a session's step decides.
+pub mod Scope

@@ -1,11 +1,11 @@
 // Whether a message concerns the connection as a whole or one of its sessions.
-use arrivals::Received;
+use replies::Received;
 use wire::Message;
 use wire_amounts::effective_increment;
 ghost use mathlib.Core.Path.{_≡_};
 ghost use Rattle.protocol.specs.Message.{data-of, scope as Message·scope};
-ghost use Rattle.arrivals.specs.Receipt.{receivedAs};
-ghost use Rattle.judge.specs.Verdict.{scopeAs};
+ghost use Rattle.replies.specs.Receipt.{receivedAs};
+ghost use Rattle.judge.specs.Scope.{scopeAs};
 
 // The connection as a whole, or a session with its number and what it receives.
 pub enum Scope {

@@ -1,22 +1,23 @@
 // A message of a session's: the step of its session, or a violation.
-use crate::Judged;
-use crate::verdicts::taken;
-use crate::verdicts::violated;
-use arrivals::Receipt;
-use arrivals::Received;
 use connection::far_start;
 use connection::own_start;
 use connection::role_of;
 use connection::session_at;
 use connection::with_session;
 use outgoing::of_session;
-use protocol::Connection;
+use replies::Receipt;
+use replies::Received;
+use state::Connection;
+use verdicts::Judged;
+use verdicts::taken;
+use verdicts::violated;
 use wire::Message;
 ghost use mathlib.Core.Path.{_≡_};
 ghost use Rattle.protocol.specs.Message.{of-session};
 ghost use Rattle.protocol.specs.Judge.{judgeScope};
-ghost use Rattle.arrivals.specs.Receipt.{receivedAs, receiptAs};
-ghost use Rattle.judge.specs.Verdict.{verdictAs, verdict, judgedBy};
+ghost use Rattle.replies.specs.Receipt.{receivedAs, receiptAs};
+ghost use Rattle.verdicts.specs.Verdict.{verdictAs, verdict};
+ghost use Rattle.judge.specs.Scope.{judgedBy};
 
 // The step of a session at a message received, as what the receive comes to.
 fn conclude(c: Connection, m: Message, n: u8, receipt: Receipt) -> Judged

@@ -1,21 +1,21 @@
 // A message of the connection as a whole.
-use crate::Judged;
-use crate::verdicts::taken;
-use crate::verdicts::violated;
 use connection::with_ping;
 use ending::Cause;
 use ending::ended;
 use outgoing::Outgoing;
-use outgoing::OwnMessage;
-use protocol::Connection;
-use protocol::Ping;
+use own_messages::OwnMessage;
 use refusal::Violation;
+use state::Connection;
+use state::Ping;
+use verdicts::Judged;
+use verdicts::taken;
+use verdicts::violated;
 use wire::Message;
 ghost use mathlib.Core.Path.{_≡_};
 ghost use Rattle.wire.specs.declared.Message.the-variants.{PingAck};
 ghost use Rattle.protocol.specs.Judge.{matches as Judge·matches, judgeScope};
 ghost use Rattle.protocol.specs.Message.{whole};
-ghost use Rattle.judge.specs.Verdict.{verdictAs, verdict};
+ghost use Rattle.verdicts.specs.Verdict.{verdictAs, verdict};
 
 // Whether a cookie is that of the outstanding ping.
 fn matches(ping: Ping, cookie: u16) -> bool

@@ -1,11 +1,12 @@
 // What one end writes at its own calls and replies, and the writing of it at the front of a lent room.
-mod headers;
+mod front;
 
-use headers::body_length;
-use headers::first_bytes;
-use headers::header_of;
-use headers::put_bytes;
-use headers::put_message;
+use front::first_bytes;
+use front::put_bytes;
+use front::put_message;
+use own_messages::OwnMessage;
+use own_messages::body_length;
+use own_messages::header_of;
 use session::Sent;
 use wire_header::Written;
 use wire_header::write_connection_header;
@@ -16,31 +17,6 @@ ghost use Rattle.protocol.specs.Judge.{sent as Judge·sent};
 ghost use Rattle.protocol.specs.Result.{bytesOfAll};
 ghost use Rattle.session.specs.Step.{sentAs};
 ghost use Rattle.outgoing.specs.Outgoing.{outsAs, written};
-
-// A message of ours: no detail, an increment unshifted, and of Data the header alone.
-pub enum OwnMessage {
-    Ping(u16),
-    PingAck(u16),
-    Shutdown,
-    Error,
-    Data {
-        session: u8,
-        length: u16,
-        opens: bool,
-        eof: bool,
-    },
-    Increment {
-        session: u8,
-        amount: u16,
-    },
-    Abort {
-        session: u8,
-        partial: bool,
-    },
-    Close {
-        session: u8,
-    },
-}
 
 // Nothing, our connection header, or a message.
 pub enum Outgoing {

@@ -16,11 +16,11 @@ use Rattle.ration.specs.Ration.{grantable}
 use Rattle.wire.specs.declared.Role.{Role}
 use Rattle.wire.specs.declared.Role.the-variants as role
 use Rattle.wire.specs.Message.{isClient, isServer, onlyIf}
-use Rattle.protocol.specs.declared.Side.the-variants as side
-use Rattle.protocol.specs.declared.Before.the-variants as before
-use Rattle.protocol.specs.declared.Sides.{Sides}
-use Rattle.protocol.specs.declared.Sides.the-variants as sides
-use Rattle.protocol.specs.declared.Session.{Session}
+use Rattle.state.specs.declared.Side.the-variants as side
+use Rattle.state.specs.declared.Before.the-variants as before
+use Rattle.state.specs.declared.Sides.{Sides}
+use Rattle.state.specs.declared.Sides.the-variants as sides
+use Rattle.state.specs.declared.Session.{Session}
 use Rattle.protocol.specs.Slot.{slotSize}
 use Rattle.protocol.specs.Plan.{check}
 use Rattle.protocol.specs.Session.{queued, finishing}

@@ -14,16 +14,16 @@ use Rattle.ration.specs.Ration.{inRange, plus, grantable}
 use Rattle.wire.specs.declared.Role.{Role}
 use Rattle.wire.specs.declared.Role.the-variants as role
 use Rattle.wire.specs.Message.{isClient, isServer, onlyIf}
-use Rattle.protocol.specs.declared.Side.{Side}
-use Rattle.protocol.specs.declared.Side.the-variants as side
-use Rattle.protocol.specs.declared.Before.{Before}
-use Rattle.protocol.specs.declared.Before.the-variants as before
-use Rattle.protocol.specs.declared.Sides.{Sides}
-use Rattle.protocol.specs.declared.Sides.the-variants as sides
-use Rattle.protocol.specs.declared.Session.{Session}
+use Rattle.state.specs.declared.Side.{Side}
+use Rattle.state.specs.declared.Side.the-variants as side
+use Rattle.state.specs.declared.Before.{Before}
+use Rattle.state.specs.declared.Before.the-variants as before
+use Rattle.state.specs.declared.Sides.{Sides}
+use Rattle.state.specs.declared.Sides.the-variants as sides
+use Rattle.state.specs.declared.Session.{Session}
 use Rattle.protocol.specs.Slot.{slotSize}
 use Rattle.protocol.specs.Queue.{putSlot}
-use Rattle.protocol.specs.declared.Outcome.the-variants as outcome
+use Rattle.state.specs.declared.Outcome.the-variants as outcome
 use Rattle.protocol.specs.Message.{increment-of, abort-of, close-of}
 use Rattle.protocol.specs.Session.{sided, dropped, settled}
 use Rattle.protocol.specs.Ask.{opened, openOf, openAsk, sends, putAsk, finishAsk, mayGrant, grantAsk, restored, aborting, abortOf, abortAsk, closeOf, closeAsk}

@@ -9,7 +9,7 @@ use lib.Seq.{length-take-le}
 use Rattle.wire.specs.declared.Message.{Message}
 use Rattle.wire.specs.declared.Message.the-variants as msg
 use Rattle.wire.specs.Message.{bodyLength, header}
-use Rattle.protocol.specs.declared.Connection.{Connection}
+use Rattle.state.specs.declared.Connection.{Connection}
 use Rattle.protocol.specs.Message.{Scope, whole, of-session, scope}
 use Rattle.protocol.specs.Receipt.{receipt}
 use Rattle.protocol.specs.Ask.{turnAsk}

@@ -18,13 +18,13 @@ use Rattle.ration.proofs.Laws.{minus-in-range}
 use Rattle.wire.specs.declared.Role.{Role}
 use Rattle.wire.specs.declared.Role.the-variants as role
 use Rattle.wire.specs.Message.{isClient, onlyIf, dataFlags}
-use Rattle.protocol.specs.declared.Side.{Side}
-use Rattle.protocol.specs.declared.Side.the-variants as side
-use Rattle.protocol.specs.declared.Before.{Before}
-use Rattle.protocol.specs.declared.Before.the-variants as before
-use Rattle.protocol.specs.declared.Sides.{Sides}
-use Rattle.protocol.specs.declared.Sides.the-variants as sides
-use Rattle.protocol.specs.declared.Session.{Session}
+use Rattle.state.specs.declared.Side.{Side}
+use Rattle.state.specs.declared.Side.the-variants as side
+use Rattle.state.specs.declared.Before.{Before}
+use Rattle.state.specs.declared.Before.the-variants as before
+use Rattle.state.specs.declared.Sides.{Sides}
+use Rattle.state.specs.declared.Sides.the-variants as sides
+use Rattle.state.specs.declared.Session.{Session}
 use Rattle.protocol.specs.Queue.{turnSlot}
 use Rattle.protocol.specs.Plan.{settle, andThen}
 use Rattle.protocol.specs.Receipt.{Taken}

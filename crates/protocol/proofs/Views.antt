@@ -14,16 +14,16 @@ use Rattle.ration.specs.declared.Ration.the-variants as ration
 use Rattle.ration.specs.Ration.{fromHeader, inRange}
 use Rattle.wire.specs.declared.Role.{Role}
 use Rattle.wire.specs.Message.{isClient, onlyIf}
-use Rattle.protocol.specs.declared.Side.{Side}
-use Rattle.protocol.specs.declared.Side.the-variants as side
-use Rattle.protocol.specs.declared.Before.the-variants as before
-use Rattle.protocol.specs.declared.Sides.{Sides}
-use Rattle.protocol.specs.declared.Sides.the-variants as sides
-use Rattle.protocol.specs.declared.Session.{Session}
-use Rattle.protocol.specs.declared.Stage.{Stage}
-use Rattle.protocol.specs.declared.Stage.the-variants as stage
-use Rattle.protocol.specs.declared.Ping.{Ping}
-use Rattle.protocol.specs.declared.Ping.the-variants as ping
+use Rattle.state.specs.declared.Side.{Side}
+use Rattle.state.specs.declared.Side.the-variants as side
+use Rattle.state.specs.declared.Before.the-variants as before
+use Rattle.state.specs.declared.Sides.{Sides}
+use Rattle.state.specs.declared.Sides.the-variants as sides
+use Rattle.state.specs.declared.Session.{Session}
+use Rattle.state.specs.declared.Stage.{Stage}
+use Rattle.state.specs.declared.Stage.the-variants as stage
+use Rattle.state.specs.declared.Ping.{Ping}
+use Rattle.state.specs.declared.Ping.the-variants as ping
 use Rattle.protocol.specs.Slot.{slotSize}
 use Rattle.protocol.specs.Session.{afterData}
 use Rattle.protocol.specs.Ask.{sends, positive, smaller, due, ready, readyIn}

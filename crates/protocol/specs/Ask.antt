@@ -9,14 +9,14 @@ use Rattle.ration.specs.declared.Ration.the-variants as ration
 use Rattle.ration.specs.Ration.{grantable, minus}
 use Rattle.wire.specs.declared.Role.{Role}
 use Rattle.wire.specs.Message.{isClient, isServer}
-use Rattle.protocol.specs.declared.Side.{Side}
-use Rattle.protocol.specs.declared.Side.the-variants as side
-use Rattle.protocol.specs.declared.Before.{Before}
-use Rattle.protocol.specs.declared.Before.the-variants as before
-use Rattle.protocol.specs.declared.Sides.{Sides}
-use Rattle.protocol.specs.declared.Sides.the-variants as sides
-use Rattle.protocol.specs.declared.Outcome.the-variants as outcome
-use Rattle.protocol.specs.declared.Session.{Session}
+use Rattle.state.specs.declared.Side.{Side}
+use Rattle.state.specs.declared.Side.the-variants as side
+use Rattle.state.specs.declared.Before.{Before}
+use Rattle.state.specs.declared.Before.the-variants as before
+use Rattle.state.specs.declared.Sides.{Sides}
+use Rattle.state.specs.declared.Sides.the-variants as sides
+use Rattle.state.specs.declared.Outcome.the-variants as outcome
+use Rattle.state.specs.declared.Session.{Session}
 use Rattle.protocol.specs.Slot.{slotSize}
 use Rattle.protocol.specs.Plan.{Plan, stop, check, take}
 use Rattle.protocol.specs.Message.{SessionMessage, data-of, increment-of, abort-of, close-of}

@@ -11,11 +11,11 @@ use Rattle.wire.specs.declared.Message.{Message}
 use Rattle.wire.specs.declared.Message.the-variants as msg
 use Rattle.wire.specs.Message.{isClient, isServer, readMessage}
 use Rattle.wire.specs.Connection.{readConnectionHeader}
-use Rattle.protocol.specs.declared.Stage.{Stage}
-use Rattle.protocol.specs.declared.Stage.the-variants as stage
-use Rattle.protocol.specs.declared.Ping.{Ping}
-use Rattle.protocol.specs.declared.Ping.the-variants as ping
-use Rattle.protocol.specs.declared.Connection.{Connection}
+use Rattle.state.specs.declared.Stage.{Stage}
+use Rattle.state.specs.declared.Stage.the-variants as stage
+use Rattle.state.specs.declared.Ping.{Ping}
+use Rattle.state.specs.declared.Ping.the-variants as ping
+use Rattle.state.specs.declared.Connection.{Connection}
 use Rattle.protocol.specs.Slot.{queueSize, turnRoom}
 use Rattle.protocol.specs.Plan.{Plan, check, take, settle, andThen}
 use Rattle.protocol.specs.Receipt.{Taken}

@@ -1,39 +1,26 @@
--- One end of a connection: just made, well formed, and how it ends.
+-- One end of a connection: its parts, well formed, and how it ends.
 use Prim.Native.Nat.{ℕ}
 use mathlib.Core.Bool.{Bool, true, false, not, _&&_}
 use mathlib.Core.List.{List, [], _∷_, map}
-use lib.ListN.{getD, replicate}
+use lib.ListN.{getD}
 use lib.Dec.{eqb, ltb, leb}
 use Rattle.ration.specs.declared.Ration.{Ration}
 use Rattle.ration.specs.Ration.{fromHeader, inRange}
 use Rattle.wire.specs.declared.Role.{Role}
 use Rattle.wire.specs.declared.Role.the-variants as role
 use Rattle.wire.specs.Message.{isClient, onlyIf}
-use Rattle.protocol.specs.declared.Sides.{Sides}
-use Rattle.protocol.specs.declared.Sides.the-variants as sides
-use Rattle.protocol.specs.declared.Outcome.{Outcome}
-use Rattle.protocol.specs.declared.Outcome.the-variants as outcome
-use Rattle.protocol.specs.declared.Session.{Session}
-use Rattle.protocol.specs.declared.Stage.{Stage}
-use Rattle.protocol.specs.declared.Stage.the-variants as stage
-use Rattle.protocol.specs.declared.Ping.the-variants as ping
-use Rattle.protocol.specs.declared.Connection.{Connection}
-use Rattle.protocol.specs.declared.Setup.{Setup}
+use Rattle.state.specs.declared.Sides.{Sides}
+use Rattle.state.specs.declared.Sides.the-variants as sides
+use Rattle.state.specs.declared.Outcome.{Outcome}
+use Rattle.state.specs.declared.Outcome.the-variants as outcome
+use Rattle.state.specs.declared.Session.{Session}
+use Rattle.state.specs.declared.Stage.{Stage}
+use Rattle.state.specs.declared.Stage.the-variants as stage
+use Rattle.state.specs.declared.Connection.{Connection}
 use Rattle.protocol.specs.Slot.{slotSize}
-use Rattle.protocol.specs.Session.{blank, settled}
+use Rattle.state.specs.New.{blank}
+use Rattle.protocol.specs.Session.{settled}
 use Rattle.protocol.specs.Ask.{sends}
-
--- a connection just made: number 0 is first in turn
-abbrev pub fresh : Setup → Connection
-fresh s =
-    record {
-      sessions = replicate 128 blank;
-      stage = stage.Fresh (s .role);
-      over = false;
-      own = s .header;
-      last = 127;
-      ping = ping.None;
-    }
 
 -- the session of a number
 abbrev pub at : Connection → ℕ → Session

@@ -1,7 +1,7 @@
 -- What becomes of a client's session, which 01 calls its fate; told from calls, answers and messages.
 use mathlib.Core.Bool.{Bool, true, false}
-use Rattle.protocol.specs.declared.Outcome.{Outcome}
-use Rattle.protocol.specs.declared.Outcome.the-variants as outcome
+use Rattle.state.specs.declared.Outcome.{Outcome}
+use Rattle.state.specs.declared.Outcome.the-variants as outcome
 use Rattle.protocol.specs.Message.{data-of, increment-of, abort-of, close-of, acknowledgment-of}
 use Rattle.protocol.specs.Observed.{Event, opens, finishes, aborts, puts, received, wrote}
 

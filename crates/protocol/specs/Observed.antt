@@ -12,8 +12,8 @@ use Rattle.ration.specs.Ration.{fromHeader, allows, inRange, plus, minus}
 use Rattle.wire.specs.declared.Role.{Role}
 use Rattle.wire.specs.declared.Role.the-variants as role
 use Rattle.wire.specs.Message.{isClient, isServer, onlyIf, dataFlags}
-use Rattle.protocol.specs.declared.Side.{Side}
-use Rattle.protocol.specs.declared.Side.the-variants as side
+use Rattle.state.specs.declared.Side.{Side}
+use Rattle.state.specs.declared.Side.the-variants as side
 use Rattle.protocol.specs.Message.{SessionMessage, data-of, increment-of, abort-of, close-of, acknowledgment-of}
 
 -- ---- the connection as a whole

@@ -9,10 +9,10 @@ use Rattle.wire.specs.declared.Message.{Message}
 use Rattle.wire.specs.Message as wire
 use Rattle.wire.specs.Message.{bodyLength}
 use Rattle.wire.specs.Connection.{connectionHeader}
-use Rattle.protocol.specs.declared.Connection.{Connection}
-use Rattle.protocol.specs.declared.Answer.{Answer}
-use Rattle.protocol.specs.declared.Answer.the-variants as answer
-use Rattle.protocol.specs.declared.Called.{Called}
+use Rattle.state.specs.declared.Connection.{Connection}
+use Rattle.state.specs.declared.Answer.{Answer}
+use Rattle.state.specs.declared.Answer.the-variants as answer
+use Rattle.state.specs.declared.Called.{Called}
 use Rattle.protocol.specs.Plan.{Plan, settle}
 use Rattle.protocol.specs.Connection.{at, ended}
 use Rattle.protocol.specs.Judge.{Report, done, served, header, message, Out, opening, sent, Effect, Decision, refuse, violate, accept, commit}

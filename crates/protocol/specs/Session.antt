@@ -1,28 +1,14 @@
 -- A session, seen from one end: its sides, how its own messages move a side, and the ways in which a session is rebuilt.
 use Prim.Native.Nat.{ℕ, _+_}
 use mathlib.Core.Bool.{Bool, true, false}
-use Rattle.ration.specs.declared.Ration.the-variants as ration
 use Rattle.ration.specs.Ration.{plus, minus}
-use Rattle.protocol.specs.declared.Side.{Side}
-use Rattle.protocol.specs.declared.Side.the-variants as side
-use Rattle.protocol.specs.declared.Sides.{Sides}
-use Rattle.protocol.specs.declared.Sides.the-variants as sides
-use Rattle.protocol.specs.declared.Outcome.{Outcome}
-use Rattle.protocol.specs.declared.Outcome.the-variants as outcome
-use Rattle.protocol.specs.declared.Session.{Session}
+use Rattle.state.specs.declared.Side.{Side}
+use Rattle.state.specs.declared.Side.the-variants as side
+use Rattle.state.specs.declared.Sides.{Sides}
+use Rattle.state.specs.declared.Outcome.{Outcome}
+use Rattle.state.specs.declared.Outcome.the-variants as outcome
+use Rattle.state.specs.declared.Session.{Session}
 use Rattle.protocol.specs.Message.{SessionMessage, data-of, increment-of, abort-of, close-of, acknowledgment-of}
-
--- a number that is idle and was never used
-abbrev pub blank : Session
-blank =
-    record {
-      sides = sides.Idle;
-      outbound = ration.Finite 0;
-      inbound = ration.Finite 0;
-      waiting = 0;
-      finish = false;
-      outcome = outcome.None;
-    }
 
 -- ---- a side's movement
 

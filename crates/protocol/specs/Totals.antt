@@ -5,7 +5,7 @@ use mathlib.Core.Bool.{true, false}
 use mathlib.Core.List.{List, [], _++_}
 use Rattle.ration.specs.declared.Ration.{Ration}
 use Rattle.ration.specs.declared.Ration.the-variants as ration
-use Rattle.protocol.specs.declared.Side.the-variants as side
+use Rattle.state.specs.declared.Side.the-variants as side
 use Rattle.protocol.specs.Message.{data-of, increment-of, abort-of, close-of, acknowledgment-of}
 use Rattle.protocol.specs.Observed.{Event, opens, finishes, aborts, puts, received, wrote, Ends, unused, ends, Seen, observe}
 

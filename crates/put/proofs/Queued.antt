@@ -10,7 +10,7 @@ use Rattle.laws.proofs.Pick.{yes}
 use Rattle.laws.proofs.Tests.{and-both, not-false}
 use Rattle.refusal.specs.declared.Refusal.{Refusal}
 use Rattle.refusal.specs.Number.{refusalNumber}
-use Rattle.protocol.specs.declared.Connection.{Connection}
+use Rattle.state.specs.declared.Connection.{Connection}
 use Rattle.protocol.specs.Plan.{Plan, stop, check, take, settle}
 use Rattle.protocol.specs.Slot.{slotSize, queueSize}
 use Rattle.protocol.specs.Queue.{slot, withSlot, putSlot}

@@ -1,7 +1,7 @@
 -- What a put gives from what it decides: the queue changes only where it is taken.
 use Prim.Native.Nat.{ℕ}
 use mathlib.Core.List.{List, []}
-use Rattle.protocol.specs.declared.Connection.{Connection}
+use Rattle.state.specs.declared.Connection.{Connection}
 use Rattle.protocol.specs.Judge.{Decision}
 use Rattle.protocol.specs.Result.{Given, given, ifTaken}
 use Rattle.slots.specs.Slots.{putInto}

@@ -1,25 +1,25 @@
 // A message received for a session: an open Data, or one that the far side may send.
 use crate::moves::Move;
 use crate::moves::follow;
-use arrivals::Receipt;
-use arrivals::Received;
 use arrivals::arrive;
-use arrivals::taken;
-use protocol::Outcome;
-use protocol::Session;
-use protocol::Side;
-use protocol::Sides;
 use ration::Ration;
 use refusal::Violation;
+use replies::Receipt;
+use replies::Received;
+use replies::taken;
 use session::parts::after_data;
 use session::parts::less;
+use state::Outcome;
+use state::Session;
+use state::Side;
+use state::Sides;
 use wire::Role;
 ghost use mathlib.Core.Path.{_≡_};
 ghost use mathlib.Core.Bool.{not};
 ghost use Rattle.ration.specs.Ration.{allows};
 ghost use Rattle.protocol.specs.Plan.{check};
 ghost use Rattle.protocol.specs.Receipt.{quietly, other as Receipt·other, acceptable as Receipt·acceptable, accepted as Receipt·accepted, receipt};
-ghost use Rattle.arrivals.specs.Receipt.{receivedAs, receiptAs, toReceipt};
+ghost use Rattle.replies.specs.Receipt.{receivedAs, receiptAs, toReceipt};
 
 // A message other than an open Data, which an idle or opening number does not take.
 fn other(role: Role, x: Session, m: Received, sides: Sides) -> Receipt

@@ -1,11 +1,11 @@
 // Where a message leaves the side that sends it.
-use arrivals::Received;
-use protocol::Side;
+use replies::Received;
 use session::parts::after_data;
+use state::Side;
 ghost use mathlib.Core.Path.{_≡_};
-ghost use Rattle.protocol.specs.declared.Side.the-variants.{Open as Side·Open, Finished as Side·Finished};
+ghost use Rattle.state.specs.declared.Side.the-variants.{Open as Side·Open, Finished as Side·Finished};
 ghost use Rattle.protocol.specs.Session.{follow as Session·follow};
-ghost use Rattle.arrivals.specs.Receipt.{receivedAs};
+ghost use Rattle.replies.specs.Receipt.{receivedAs};
 ghost use Rattle.receipts.specs.Move.{moveAs};
 
 // The side after a message, or that the side may not send it.

@@ -10,12 +10,14 @@ use Rattle.wire.specs.declared.Message.the-variants as msg
 use Rattle.protocol.specs.Judge.{opening, sent}
 use Rattle.protocol.specs.Result.{bytesOfAll, over}
 use Rattle.outgoing.specs.declared.Outgoing.the-variants as outgoing
-use Rattle.outgoing.specs.Outgoing.{messageAs, written}
+use Rattle.own_messages.specs.Own.{messageAs}
+use Rattle.outgoing.specs.Outgoing.{written}
 use Rattle.outgoing.proofs.Rooms.{fits, one-message}
-use Rattle.judge.specs.declared.Reply.{Reply}
-use Rattle.judge.specs.declared.Reply.the-variants as reply
-use Rattle.judge.specs.Verdict.{Verdict, repliesAs}
-use Rattle.receive.specs.Concluded.{usedIn, startIn, endIn, concluded}
+use Rattle.verdicts.specs.declared.Reply.{Reply}
+use Rattle.verdicts.specs.declared.Reply.the-variants as reply
+use Rattle.verdicts.specs.Verdict.{Verdict, repliesAs}
+use Rattle.extents.specs.Extent.{usedIn, startIn, endIn}
+use Rattle.receive.specs.Concluded.{concluded}
 
 -- a part up to the end is back in its place
 back : (a : ℕ) (l p : List ℕ) → putMid a (length l - a) l p ≡ take a l ++ p

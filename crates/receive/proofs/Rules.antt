@@ -12,9 +12,9 @@ use Rattle.wire.specs.declared.Role.{Role}
 use Rattle.wire_header.specs.declared.ReadHeader.{ReadHeader}
 use Rattle.wire_header.specs.declared.ReadHeader.the-variants as read-header
 use Rattle.wire_header.specs.Answer.{headerReadAs}
-use Rattle.protocol.specs.declared.Stage.{Stage}
-use Rattle.protocol.specs.declared.Stage.the-variants as stage
-use Rattle.protocol.specs.declared.Connection.{Connection}
+use Rattle.state.specs.declared.Stage.{Stage}
+use Rattle.state.specs.declared.Stage.the-variants as stage
+use Rattle.state.specs.declared.Connection.{Connection}
 use Rattle.protocol.specs.Plan.{Plan, stop, check, take, settle}
 use Rattle.protocol.specs.Judge.{header, Out, Decision, refuse, violate, accept}
 use Rattle.protocol.specs.Call.{answering, headerTaken, reading, receiveGate, receiveRule}
@@ -24,7 +24,7 @@ use Rattle.gates.specs.declared.Gate.the-variants as gate
 use Rattle.gates.specs.Gate.{gateAs, toGate, behind}
 use Rattle.connection.specs.Table.{withStage}
 use Rattle.results.proofs.Calls.{next-check, refusing-in, sets-stage}
-use Rattle.judge.specs.Verdict.{Verdict, verdict}
+use Rattle.verdicts.specs.Verdict.{Verdict, verdict}
 use Rattle.receive.specs.Concluded.{concluded}
 
 -- ---- the reading

@@ -2,25 +2,9 @@
 use Prim.Native.Nat.{ℕ}
 use mathlib.Core.List.{List, []}
 use lib.ListN.{length}
-use Rattle.laws.specs.Result.{Result, ok, refused, violation}
-use Rattle.protocol.specs.Judge.{Report}
-use Rattle.protocol.specs.Result.{Given, usedBy, startOf, endOf, bytesOfAll, over}
-use Rattle.judge.specs.Verdict.{Verdict}
-
--- only what is taken uses bytes of the input
-abbrev pub inAnswer : (Report → ℕ) → Result Report → ℕ
-inAnswer f (ok r) = f r
-inAnswer f (refused n) = 0
-inAnswer f (violation n) = 0
-
-abbrev pub usedIn : Result Report → ℕ
-usedIn a = inAnswer usedBy a
-
-abbrev pub startIn : Result Report → ℕ
-startIn a = inAnswer startOf a
-
-abbrev pub endIn : Result Report → ℕ
-endIn a = inAnswer endOf a
+use Rattle.protocol.specs.Result.{Given, bytesOfAll, over}
+use Rattle.extents.specs.Extent.{usedIn, startIn, endIn}
+use Rattle.verdicts.specs.Verdict.{Verdict}
 
 abbrev pub concluded : Verdict → List ℕ → Given × List ℕ
 concluded v room = (

@@ -1,15 +1,15 @@
 // What stands first in the input, as what the receive comes to: a connection header first, then messages.
 use connection::with_stage;
-use judge::Judged;
-use judge::Reply;
 use judge::judge;
-use judge::refused;
-use judge::violated;
 use outgoing::Outgoing;
-use protocol::Answer;
-use protocol::Connection;
-use protocol::Stage;
 use refusal::Refusal;
+use state::Answer;
+use state::Connection;
+use state::Stage;
+use verdicts::Judged;
+use verdicts::Reply;
+use verdicts::refused;
+use verdicts::violated;
 use wire::Role;
 use wire_header::ReadHeader;
 use wire_header::read_connection_header;
@@ -19,7 +19,7 @@ ghost use mathlib.Core.Path.{_≡_};
 ghost use Rattle.protocol.specs.Call.{otherEnd, answering as Call·answering, headerTaken, messageTaken, reading};
 ghost use Rattle.wire_header.specs.Answer.{headerReadAs};
 ghost use Rattle.wire_read.specs.Answer.{readAs};
-ghost use Rattle.judge.specs.Verdict.{repliesAs, verdictAs, verdict};
+ghost use Rattle.verdicts.specs.Verdict.{repliesAs, verdictAs, verdict};
 
 // A good first header makes a server write its own.
 fn answering(role: Role, own: u16) -> Reply

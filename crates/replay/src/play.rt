@@ -1,11 +1,11 @@
 // One line of a script, played on a connection.
 use crate::show;
-use protocol::Called;
-use protocol::Connection;
-use protocol::Setup;
 use script::Beginning;
 use script::Call;
 use script::Line;
+use state::Called;
+use state::Connection;
+use state::Setup;
 use text::first;
 use wire::Role;
 

@@ -2,11 +2,11 @@
 use crate::input::part;
 use bytes::scan::find;
 use libc::STDOUT_FILENO;
-use protocol::Answer;
-use protocol::Called;
-use protocol::Connection;
-use protocol::Session;
 use session::SLOT_SIZE;
+use state::Answer;
+use state::Called;
+use state::Connection;
+use state::Session;
 use text::Line;
 use text::first;
 

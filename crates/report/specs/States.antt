@@ -6,18 +6,18 @@ use Rattle.ration.specs.declared.Ration.{Ration}
 use Rattle.ration.specs.declared.Ration.the-variants as ration
 use Rattle.wire.specs.declared.Role.{Role}
 use Rattle.wire.specs.declared.Role.the-variants as role
-use Rattle.protocol.specs.declared.Connection.{Connection}
-use Rattle.protocol.specs.declared.Outcome.{Outcome}
-use Rattle.protocol.specs.declared.Outcome.the-variants as outcome
-use Rattle.protocol.specs.declared.Ping.{Ping}
-use Rattle.protocol.specs.declared.Ping.the-variants as ping
-use Rattle.protocol.specs.declared.Session.{Session}
-use Rattle.protocol.specs.declared.Side.{Side}
-use Rattle.protocol.specs.declared.Side.the-variants as side
-use Rattle.protocol.specs.declared.Sides.{Sides}
-use Rattle.protocol.specs.declared.Sides.the-variants as sides
-use Rattle.protocol.specs.declared.Stage.{Stage}
-use Rattle.protocol.specs.declared.Stage.the-variants as stage
+use Rattle.state.specs.declared.Connection.{Connection}
+use Rattle.state.specs.declared.Outcome.{Outcome}
+use Rattle.state.specs.declared.Outcome.the-variants as outcome
+use Rattle.state.specs.declared.Ping.{Ping}
+use Rattle.state.specs.declared.Ping.the-variants as ping
+use Rattle.state.specs.declared.Session.{Session}
+use Rattle.state.specs.declared.Side.{Side}
+use Rattle.state.specs.declared.Side.the-variants as side
+use Rattle.state.specs.declared.Sides.{Sides}
+use Rattle.state.specs.declared.Sides.the-variants as sides
+use Rattle.state.specs.declared.Stage.{Stage}
+use Rattle.state.specs.declared.Stage.the-variants as stage
 use Rattle.text.specs.Line.{codes, decimal, item, flag}
 
 -- ---- a connection

@@ -1,12 +1,12 @@
 // The words of what stands.
-use protocol::Connection;
-use protocol::Outcome;
-use protocol::Ping;
-use protocol::Session;
-use protocol::Side;
-use protocol::Sides;
-use protocol::Stage;
 use ration::Ration;
+use state::Connection;
+use state::Outcome;
+use state::Ping;
+use state::Session;
+use state::Side;
+use state::Sides;
+use state::Stage;
 use text::Line;
 use wire::Role;
 ghost use mathlib.Core.Path.{_≡_};

@@ -11,12 +11,12 @@ use Rattle.laws.proofs.Results.{refused-not-ok}
 use Rattle.refusal.specs.declared.Refusal.{Refusal}
 use Rattle.refusal.specs.Number.{refusalNumber}
 use Rattle.wire.specs.declared.Message.{Message}
-use Rattle.protocol.specs.declared.Session.{Session}
-use Rattle.protocol.specs.declared.Stage.{Stage}
-use Rattle.protocol.specs.declared.Ping.{Ping}
-use Rattle.protocol.specs.declared.Connection.{Connection}
+use Rattle.state.specs.declared.Session.{Session}
+use Rattle.state.specs.declared.Stage.{Stage}
+use Rattle.state.specs.declared.Ping.{Ping}
+use Rattle.state.specs.declared.Connection.{Connection}
 use Rattle.protocol.specs.Plan.{Plan, stop, check, take, settle, andThen}
-use Rattle.protocol.specs.Session.{blank}
+use Rattle.state.specs.New.{blank}
 use Rattle.protocol.specs.Receipt.{Taken}
 use Rattle.protocol.specs.Connection.{Cause, ended}
 use Rattle.protocol.specs.Judge.{Report, done, Out, opening, sent, Effect, refuse, accept, with-stage, with-ping, ends-by, commit}
@@ -30,7 +30,7 @@ use Rattle.connection.specs.Table.{withStage, withPing}
 use Rattle.gates.proofs.Checks.{gated}
 use Rattle.outgoing.specs.Outgoing.{written}
 use Rattle.outgoing.proofs.Rooms.{fits, one-message}
-use Rattle.results.specs.Asking.{decision}
+use Rattle.results.specs.Asking.{decision, afterChecks}
 
 -- ---- the gate
 
@@ -77,6 +77,16 @@ module _ (effect : Taken → Effect) where
   pub asked : {g : Gate} {r : Result Taken} (p : Plan Unit) (ask : Plan Taken) → gateAs g ≡ toGate p → g ≡ gate.Passed → r ≡ toAsked ask
       → decision effect r ≡ decided (followedBy p (andThen effect ask))
   asked p ask e q s = ap (decision effect) s ∙ step ask ∙ passed p e (andThen effect ask) q
+
+  -- a step that is asked for behind a gate
+  pub asked-behind : {g h : Gate} (p : Plan Unit) (r : Result Taken) → gateAs g ≡ toGate p → g ≡ h
+      → behind (gateAs h) refuse (decision effect r) ≡ afterChecks p effect r
+  asked-behind p r e q = ap (λ (x : Result Unit). behind x refuse (decision effect r)) (sym (ap gateAs q) ∙ e)
+
+  pub by-rule : (p : Plan Unit) (ask : Plan Taken) {r : Result Taken} → r ≡ toAsked ask
+      → afterChecks p effect r ≡ decided (followedBy p (andThen effect ask))
+  by-rule p ask e =
+      ap (afterChecks p effect) e ∙ ap (behind (toGate p) refuse) (step ask) ∙ gated refuse accept p (andThen effect ask)
 
 -- ---- what a call that is taken gives
 

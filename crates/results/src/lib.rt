@@ -1,8 +1,8 @@
 // What a call gives: refused, or done with so many bytes written.
-use protocol::Answer;
-use protocol::Called;
-use protocol::Connection;
 use refusal::Refusal;
+use state::Answer;
+use state::Called;
+use state::Connection;
 ghost use mathlib.Core.Path.{_≡_};
 ghost use mathlib.Core.List.{[]};
 ghost use Rattle.laws.specs.Result.{ok};

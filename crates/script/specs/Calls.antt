@@ -6,14 +6,14 @@ use Rattle.laws.specs.Pick.{pick}
 use Rattle.wire.specs.declared.Role.{Role}
 use Rattle.protocol.specs.Slot.{queueSize}
 use Rattle.wire.specs.declared.Role.the-variants as role
-use Rattle.script_words.specs.declared.Number.{Number}
-use Rattle.script_words.specs.declared.Number.the-variants as number
-use Rattle.script_words.specs.declared.Id.{Id}
-use Rattle.script_words.specs.declared.Id.the-variants as id
-use Rattle.script_words.specs.declared.Short.{Short}
-use Rattle.script_words.specs.declared.Short.the-variants as short
-use Rattle.script_words.specs.declared.Size.{Size}
-use Rattle.script_words.specs.declared.Size.the-variants as size
+use Rattle.decimal.specs.declared.Number.{Number}
+use Rattle.decimal.specs.declared.Number.the-variants as number
+use Rattle.decimal.specs.declared.Id.{Id}
+use Rattle.decimal.specs.declared.Id.the-variants as id
+use Rattle.decimal.specs.declared.Short.{Short}
+use Rattle.decimal.specs.declared.Short.the-variants as short
+use Rattle.decimal.specs.declared.Size.{Size}
+use Rattle.decimal.specs.declared.Size.the-variants as size
 use Rattle.script.specs.declared.names.Name.{Name}
 use Rattle.script.specs.declared.names.Name.the-variants as name
 use Rattle.script.specs.declared.Call.{Call}
@@ -23,7 +23,7 @@ use Rattle.script.specs.declared.Line.the-variants as line
 use Rattle.script.specs.declared.Beginning.{Beginning}
 use Rattle.script.specs.declared.Beginning.the-variants as beginning
 use Rattle.script_words.specs.Words.{codes, headOf, tailOf, hasMore, same}
-use Rattle.script_words.specs.Numbers.{numberOf, idFrom, shortFrom, sizeFrom}
+use Rattle.decimal.specs.Numbers.{numberOf, idFrom, shortFrom, sizeFrom}
 use Rattle.script_words.specs.Hex.{isBytes}
 
 -- ---- the room

@@ -1,4 +1,3 @@
--- The laws of words, numbers and bytes.
+-- The laws of words and bytes.
 pub mod Texts
-pub mod Values
 pub mod Digits

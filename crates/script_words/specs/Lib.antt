@@ -1,4 +1,3 @@
--- The script language: words, numbers and bytes.
+-- The script language: words and bytes.
 pub mod Words
-pub mod Numbers
 pub mod Hex

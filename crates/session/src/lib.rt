@@ -1,8 +1,8 @@
 // One session: what a step of it answers, and the parts that the steps share. No table of sessions is here.
 pub mod parts;
 
-use protocol::Session;
 use refusal::Refusal;
+use state::Session;
 
 // How many bytes of the queue each session number has.
 pub const SLOT_SIZE: u16 = 256;

@@ -1,9 +1,4 @@
 // Close and abort: our side ends.
-use protocol::Before;
-use protocol::Outcome;
-use protocol::Session;
-use protocol::Side;
-use protocol::Sides;
 use refusal::Refusal;
 use session::Asked;
 use session::Sent;
@@ -11,6 +6,11 @@ use session::parts::dropped;
 use session::parts::settled;
 use session::parts::sided;
 use session::parts::taken;
+use state::Before;
+use state::Outcome;
+use state::Session;
+use state::Side;
+use state::Sides;
 use wire::Role;
 use wire::is_client;
 ghost use mathlib.Core.Path.{_≡_};
@@ -18,9 +18,9 @@ ghost use Prim.Native.Nat.{_-_};
 ghost use Rattle.protocol.specs.Session.{sided as Session·sided, dropped as Session·dropped, settled as Session·settled};
 ghost use Rattle.protocol.specs.Ask.{closeOf, closeAsk, restored as Ask·restored, aborting, abortOf, abortAsk};
 ghost use Rattle.session.specs.Step.{askedAs, toAsked};
-ghost use Rattle.protocol.specs.declared.Side.the-variants.{Finished};
-ghost use Rattle.protocol.specs.declared.Sides.the-variants.{Live};
-ghost use Rattle.protocol.specs.declared.Outcome.the-variants.{MayRetry};
+ghost use Rattle.state.specs.declared.Side.the-variants.{Finished};
+ghost use Rattle.state.specs.declared.Sides.the-variants.{Live};
+ghost use Rattle.state.specs.declared.Outcome.the-variants.{MayRetry};
 
 // Closes a session whose own side is finished.
 fn close_of(x: Session, sides: Sides) -> Asked

@@ -1,7 +1,4 @@
 // Grant: the far end may send more.
-use protocol::Session;
-use protocol::Side;
-use protocol::Sides;
 use ration::Grown;
 use ration::Ration;
 use refusal::Refusal;
@@ -9,6 +6,9 @@ use session::Asked;
 use session::Sent;
 use session::parts::rationed;
 use session::parts::taken;
+use state::Session;
+use state::Side;
+use state::Sides;
 ghost use mathlib.Core.Path.{_≡_};
 ghost use mathlib.Core.Bool.{not, _||_, false};
 ghost use Prim.Native.Nat.{_-_};

@@ -1,17 +1,17 @@
 // Open: a client's session begins, with nothing sent yet.
-use protocol::Before;
-use protocol::Outcome;
-use protocol::Session;
-use protocol::Side;
-use protocol::Sides;
 use refusal::Refusal;
 use session::Asked;
 use session::Sent;
 use session::parts::taken;
+use state::Before;
+use state::Outcome;
+use state::Session;
+use state::Side;
+use state::Sides;
 use wire::Role;
 use wire::is_server;
 ghost use mathlib.Core.Path.{_≡_};
-ghost use Rattle.protocol.specs.declared.Sides.the-variants.{Live};
+ghost use Rattle.state.specs.declared.Sides.the-variants.{Live};
 ghost use Rattle.protocol.specs.Ask.{opened as Ask·opened, openOf, openAsk};
 ghost use Rattle.session.specs.Step.{askedAs, toAsked};
 

@@ -1,11 +1,11 @@
 // Put and finish: bytes wait behind those that wait, and the end of our side is asked for.
-use protocol::Session;
 use refusal::Refusal;
 use session::Asked;
 use session::Sent;
 use session::parts::sends;
 use session::parts::space;
 use session::parts::taken;
+use state::Session;
 ghost use mathlib.Core.Path.{_≡_};
 ghost use mathlib.Core.Bool.{not, _||_};
 ghost use Prim.Native.Nat.{_-_};

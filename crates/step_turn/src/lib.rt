@@ -1,7 +1,4 @@
 // A turn for one session: whether it is ready, and the Data message that goes out.
-use protocol::Session;
-use protocol::Side;
-use protocol::Sides;
 use ration::Ration;
 use refusal::Refusal;
 use session::Asked;
@@ -9,6 +6,9 @@ use session::Sent;
 use session::parts::after_data;
 use session::parts::less;
 use session::parts::taken;
+use state::Session;
+use state::Side;
+use state::Sides;
 ghost use mathlib.Core.Path.{_≡_};
 ghost use mathlib.Core.Bool.{not, false};
 ghost use Prim.Native.Nat.{_-_};

@@ -10,9 +10,9 @@ use lib.Dec.{eqb}
 use lib.ListN.{length, getD, set}
 use Rattle.laws.specs.Pick.{pick}
 use Rattle.laws.proofs.Pick.{yes, no}
-use Rattle.protocol.specs.declared.Session.{Session}
-use Rattle.protocol.specs.declared.Connection.{Connection}
-use Rattle.protocol.specs.Session.{blank}
+use Rattle.state.specs.declared.Session.{Session}
+use Rattle.state.specs.declared.Connection.{Connection}
+use Rattle.state.specs.New.{blank}
 use Rattle.protocol.specs.Ask.{ready}
 use Rattle.protocol.specs.Connection.{at}
 use Rattle.protocol.specs.Call.{nextReady}

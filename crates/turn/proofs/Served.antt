@@ -14,7 +14,7 @@ use Rattle.refusal.specs.Number.{refusalNumber}
 use Rattle.wire.specs.declared.Message.{Message}
 use Rattle.wire.specs.declared.Message.the-variants as msg
 use Rattle.wire.specs.Message.{header, bodyLength}
-use Rattle.protocol.specs.declared.Connection.{Connection}
+use Rattle.state.specs.declared.Connection.{Connection}
 use Rattle.protocol.specs.Slot.{slotSize, queueSize, turnRoom}
 use Rattle.protocol.specs.Queue.{slot, withSlot, turnSlot}
 use Rattle.protocol.specs.Plan.{Plan, take as taking}

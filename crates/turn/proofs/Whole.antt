@@ -10,7 +10,7 @@ use Rattle.laws.proofs.Circle.{nearest-lt}
 use Rattle.laws.proofs.Tests.{and-first}
 use Rattle.refusal.specs.declared.Refusal.{Refusal}
 use Rattle.refusal.specs.Number.{refusalNumber}
-use Rattle.protocol.specs.declared.Connection.{Connection}
+use Rattle.state.specs.declared.Connection.{Connection}
 use Rattle.protocol.specs.Slot.{slotSize, turnRoom}
 use Rattle.protocol.specs.Plan.{Plan, take}
 use Rattle.protocol.specs.Ask.{ready}

@@ -1,7 +1,7 @@
 -- The flag of a session: 1 where it is ready.
 use Prim.Native.Nat.{ℕ}
 use Rattle.laws.specs.Pick.{pick}
-use Rattle.protocol.specs.declared.Session.{Session}
+use Rattle.state.specs.declared.Session.{Session}
 use Rattle.protocol.specs.Ask.{ready}
 
 unfoldable pub flagOf : Session → ℕ

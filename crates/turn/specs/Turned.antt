@@ -2,8 +2,8 @@
 use Prim.Native.Nat.{ℕ}
 use mathlib.Core.List.{List}
 use lib.ListN.{set}
-use Rattle.protocol.specs.declared.Session.{Session}
-use Rattle.protocol.specs.declared.Connection.{Connection}
+use Rattle.state.specs.declared.Session.{Session}
+use Rattle.state.specs.declared.Connection.{Connection}
 use Rattle.protocol.specs.Judge.{Decision}
 use Rattle.protocol.specs.Result.{Given, given, ifTaken, turned, turnPayload, writtenBy, over}
 

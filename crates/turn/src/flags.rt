@@ -1,5 +1,5 @@
 // The ready flags: one for each session number.
-use protocol::Session;
+use state::Session;
 use step_turn::ready;
 ghost use mathlib.Core.Path.{_≡_};
 ghost use mathlib.Core.List.{map};

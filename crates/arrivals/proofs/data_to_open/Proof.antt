@@ -6,13 +6,13 @@ use borrow.Author.Needs.{needs}
 use Rattle.laws.specs.Result.{violation}
 use Rattle.ration.specs.Ration.{allows}
 use Rattle.wire.specs.declared.Role.{Role}
-use Rattle.protocol.specs.declared.Session.{Session}
-use Rattle.protocol.specs.declared.Side.{Side}
-use Rattle.protocol.specs.declared.Side.the-variants as side
+use Rattle.state.specs.declared.Session.{Session}
+use Rattle.state.specs.declared.Side.{Side}
+use Rattle.state.specs.declared.Side.the-variants as side
 use Rattle.protocol.specs.Receipt.{dataTo}
 use Rattle.protocol.specs.Plan.{settle}
 use Rattle.laws.proofs.Pick.{via}
-use Rattle.arrivals.specs.Receipt.{toReceipt}
+use Rattle.replies.specs.Receipt.{toReceipt}
 use Rattle.arrivals.proofs.data_to_open.Statement.{statement}
 use Rattle.arrivals.proofs.data_to_open.Tie as tie
 

@@ -5,7 +5,7 @@ use lib.ListN.{length}
 use denote.Ref.{now}
 use borrow.Author.Needs.{needs}
 use Rattle.wire.specs.declared.Message.the-variants as msg
-use Rattle.protocol.specs.declared.Ping.the-variants as ping
+use Rattle.state.specs.declared.Ping.the-variants as ping
 use Rattle.protocol.specs.Plan.{take, check, settle}
 use Rattle.protocol.specs.Judge.{done, sent, with-ping}
 use Rattle.protocol.specs.Call.{upAndRunning, roomFor, isOutstanding, pingRule}

@@ -6,7 +6,7 @@ use lib.ListN.{length}
 use denote.Ref.{now}
 use borrow.Author.Needs.{needs}
 use Rattle.wire.specs.Message.{isServer}
-use Rattle.protocol.specs.declared.Stage.the-variants as stage
+use Rattle.state.specs.declared.Stage.the-variants as stage
 use Rattle.protocol.specs.Plan.{take, check, settle}
 use Rattle.protocol.specs.Connection.{roleOf}
 use Rattle.protocol.specs.Judge.{done, opening, with-stage}

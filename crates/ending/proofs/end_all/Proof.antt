@@ -5,8 +5,8 @@ use Prim.Native.Nat.{ℕ, _≤_, _-_}
 use native.Mathlib.Omega.{arith}
 use lib.ListN.{length, getD}
 use borrow.Author.Needs.{needs}
-use Rattle.protocol.specs.declared.Session.{Session}
-use Rattle.protocol.specs.Session.{blank}
+use Rattle.state.specs.declared.Session.{Session}
+use Rattle.state.specs.New.{blank}
 use Rattle.protocol.specs.Connection.{ending}
 use Rattle.ending.specs.Cause.{causeAs}
 use Rattle.connection.proofs.Tables.{upTo, upTo-step, upTo-at, upTo-zero, upTo-end}

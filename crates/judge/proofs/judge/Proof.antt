@@ -2,11 +2,12 @@
 use mathlib.Core.Path.{_≡_, sym, ap, _∙_}
 use borrow.Author.Needs.{needs}
 use Rattle.wire.specs.declared.Message.{Message}
-use Rattle.protocol.specs.declared.Connection.{Connection}
+use Rattle.state.specs.declared.Connection.{Connection}
 use Rattle.protocol.specs.Message as rule
 use Rattle.protocol.specs.Judge.{judgeScope, judge}
 use Rattle.judge.specs.declared.scopes.Scope.{Scope}
-use Rattle.judge.specs.Verdict.{Verdict, verdict, scopeAs}
+use Rattle.verdicts.specs.Verdict.{Verdict, verdict}
+use Rattle.judge.specs.Scope.{scopeAs}
 use Rattle.judge.proofs.judge.Statement.{statement}
 use Rattle.judge.proofs.judge.Tie as tie
 

@@ -1,48 +1,28 @@
--- `abort` meets its contract: the gate, then what is asked of the session.
+-- `abort` meets its contract: what is asked of the session, by the rule of the call.
 use mathlib.Core.Path.{ap, _∙_}
 use lib.ListN.{length}
 use denote.Ref.{now}
 use borrow.Author.Needs.{needs}
-use Rattle.protocol.specs.Judge.{done, with-session}
-use Rattle.protocol.specs.Plan.{take}
 use Rattle.protocol.specs.Connection.{at, roleOf}
 use Rattle.protocol.specs.Ask.{abortAsk}
-use Rattle.protocol.specs.Call.{upAndRunning, roomFor, numberIn, asking, abortRule}
-use Rattle.protocol.specs.Result.{given, inRoom, abortCall}
-use Rattle.results.proofs.Calls.{asked, stopped, roomy, refusing-in}
+use Rattle.protocol.specs.Call.{abortRule}
+use Rattle.protocol.specs.Result.{inRoom, abortCall}
+use Rattle.protocol.specs.Judge.{done, with-session}
+use Rattle.asking.specs.Asked.{checks}
+use Rattle.results.proofs.Calls.{by-rule}
 use Rattle.session_writes.proofs.abort.Statement.{statement}
 use Rattle.session_writes.proofs.abort.Tie as tie
-
-conclude-in-requires : tie.Need-conclude-in-requires
-conclude-in-requires c κs =
-    let gate = c .before .before .before .before in
-    let start = gate .before .before in
-    let a = start .before .before .args in
-    roomy (a .c) 4 (length (now (a .room))) (numberIn (a .n) (take tt)) (start .to-write-session .ensures) (gate .enum-told .given .1)
 
 returns : tie.Need-returns
 unfolding abortCall abortRule
 returns c =
-    let gate = c .before .before .before .before .before .before .before in
-    let start = gate .before .before in
-    let a = start .before .before .args in
-    c .before .before .conclude-in .ensures
+    let step = c .before .before .before .before in
+    let a = step .before .before .before .before .args in
+    c .before .before .ask-in .ensures
     ∙ ap (inRoom (a .c) (now (a .room)))
-    (asked (with-session (a .c) (a .n) (a .c .last) done) (upAndRunning (a .c) (roomFor 4 (length (now (a .room))) (numberIn (a .n) (take tt)))) (abortAsk (roleOf (a .c .stage)) (at (a .c) (a .n)) (a .partial)) (start .to-write-session .ensures) (gate .enum-told .given .1)
-    (rw (c .before .before .before .before .before .session-at .ensures, c .before .before .before .before .before .before .role-of .ensures) at (c .before .before .before .before .abort .ensures)))
-
-returns-2 : tie.Need-returns-2
-unfolding abortCall abortRule
-returns-2 c =
-    let start = c .before .before .before .before in
-    let a = start .before .before .args in
-    refusing-in (a .c) (now (a .room)) (c .refused .ensures)
-    ∙ ap (inRoom (a .c) (now (a .room)))
-    (stopped (upAndRunning (a .c) (roomFor 4 (length (now (a .room))) (numberIn (a .n) (take tt)))) (start .to-write-session .ensures) (asking (a .c) (a .n) (abortAsk (roleOf (a .c .stage)) (at (a .c) (a .n)) (a .partial))) (c .before .before .gate .given .1))
+    (by-rule (with-session (a .c) (a .n) (a .c .last) done) (checks (a .c) (a .n) (length (now (a .room)))) (abortAsk (roleOf (a .c .stage)) (at (a .c) (a .n)) (a .partial)) (rw (step .before .session-at .ensures, step .before .before .role-of .ensures) at (step .abort .ensures)))
 
 pub abort-spec : {M : Type 1} → statement M
 abort-spec =
     tie.close
-    (tie.spec
-    (λ c κs. search needs) (λ c. search needs) (λ c κs. search needs) (λ c κs. search needs) (λ c κs. search needs)
-    conclude-in-requires (λ c. search needs) (λ c κs. search needs) (λ c. search needs) returns returns-2)
+    (tie.spec (λ c κs. search needs) (λ c κs. search needs) (λ c κs. search needs) (λ c κs. search needs) (λ c. search needs) returns)

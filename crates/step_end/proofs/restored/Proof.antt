@@ -4,7 +4,7 @@ use Rattle.step_end.proofs.restored.Statement.{statement}
 use Rattle.step_end.proofs.restored.Tie as tie
 
 returns-2 : tie.Need-returns-2
-returns-2 c = cc
+returns-2 c = rw (c .enum-told2 .given .1)
 
 returns-3 : tie.Need-returns-3
 returns-3 c = rw (c .enum-told3 .given .1)

@@ -4,7 +4,7 @@ use Rattle.step_put.proofs.is_barred.Statement.{statement}
 use Rattle.step_put.proofs.is_barred.Tie as tie
 
 returns : tie.Need-returns
-returns c = cc
+returns c = rw (c .before .sends .ensures)
 
 pub is-barred-spec : {M : Type 1} → statement M
 is-barred-spec = tie.close (tie.spec (λ c κs. search needs) returns)

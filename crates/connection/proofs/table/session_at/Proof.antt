@@ -1,7 +1,7 @@
 -- `session_at` meets its contract: past the end the table reads as a blank session.
 use borrow.Author.Needs.{needs}
-use Rattle.protocol.proofs.Session.{the-field}
-use Rattle.protocol.specs.Session.{blank}
+use Rattle.state.proofs.Session.{the-field}
+use Rattle.state.specs.New.{blank}
 use Rattle.connection.proofs.Tables.{length-mapped, read-past}
 use Rattle.connection.proofs.table.session_at.Statement.{statement}
 use Rattle.connection.proofs.table.session_at.Tie as tie

@@ -3,8 +3,8 @@ use mathlib.Core.Path.{sym, ap}
 use lib.Seq.{set-out}
 use mathlib.Core.List.{List}
 use borrow.Author.Needs.{needs}
-use Rattle.protocol.specs.declared.Session.{Session}
-use Rattle.protocol.proofs.Session.{the-field}
+use Rattle.state.specs.declared.Session.{Session}
+use Rattle.state.proofs.Session.{the-field}
 use Rattle.connection.proofs.Tables.{length-mapped}
 use Rattle.connection.proofs.table.with_session.Statement.{statement}
 use Rattle.connection.proofs.table.with_session.Tie as tie

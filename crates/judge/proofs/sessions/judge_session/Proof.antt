@@ -1,6 +1,6 @@
 -- `judge_session` meets its contract: what the session's step comes to decides.
 use borrow.Author.Needs.{needs}
-use Rattle.arrivals.specs.Receipt.{receivedAs}
+use Rattle.replies.specs.Receipt.{receivedAs}
 use Rattle.judge.proofs.Judging.{stepped}
 use Rattle.judge.proofs.sessions.judge_session.Statement.{statement}
 use Rattle.judge.proofs.sessions.judge_session.Tie as tie

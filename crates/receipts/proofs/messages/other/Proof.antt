@@ -2,15 +2,15 @@
 use mathlib.Core.Path.{_≡_, sym, ap, _∙_}
 use borrow.Author.Needs.{needs}
 use Rattle.wire.specs.declared.Role.{Role}
-use Rattle.protocol.specs.declared.Session.{Session}
-use Rattle.protocol.specs.declared.Side.{Side}
-use Rattle.protocol.specs.declared.Sides.{Sides}
-use Rattle.protocol.specs.declared.Sides.the-variants as sides
+use Rattle.state.specs.declared.Session.{Session}
+use Rattle.state.specs.declared.Side.{Side}
+use Rattle.state.specs.declared.Sides.{Sides}
+use Rattle.state.specs.declared.Sides.the-variants as sides
 use Rattle.protocol.specs.Message.{SessionMessage}
 use Rattle.protocol.specs.Session.{Move, follow}
 use Rattle.protocol.specs.Receipt.{arriving, other}
 use Rattle.protocol.specs.Plan.{settle}
-use Rattle.arrivals.specs.Receipt.{receivedAs, toReceipt}
+use Rattle.replies.specs.Receipt.{receivedAs, toReceipt}
 use Rattle.receipts.specs.Move.{moveAs}
 use Rattle.receipts.proofs.messages.other.Statement.{statement}
 use Rattle.receipts.proofs.messages.other.Tie as tie

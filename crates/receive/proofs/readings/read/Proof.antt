@@ -9,7 +9,7 @@ use Rattle.wire.specs.declared.Role.{Role}
 use Rattle.wire.specs.declared.Role.the-variants as role
 use Rattle.wire.specs.Message.{readMessage}
 use Rattle.protocol.specs.Call.{headerTaken, messageTaken}
-use Rattle.judge.specs.Verdict.{verdict}
+use Rattle.verdicts.specs.Verdict.{verdict}
 use Rattle.receive.proofs.Rules.{staged}
 use Rattle.receive.proofs.readings.read.Statement.{statement}
 use Rattle.receive.proofs.readings.read.Tie as tie

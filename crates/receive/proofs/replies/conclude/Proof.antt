@@ -2,7 +2,7 @@
 use native.Mathlib.Nat.{le-trans}
 use denote.Ref.{now}
 use borrow.Author.Needs.{needs}
-use Rattle.judge.specs.Verdict.{verdictAs}
+use Rattle.verdicts.specs.Verdict.{verdictAs}
 use Rattle.receive.proofs.Rooms.{fits-twelve, concludes}
 use Rattle.receive.proofs.replies.conclude.Statement.{statement}
 use Rattle.receive.proofs.replies.conclude.Tie as tie

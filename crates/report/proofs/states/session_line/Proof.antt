@@ -5,7 +5,7 @@ use Prim.Native.Nat.{ℕ}
 use borrow.Author.Needs.{needs}
 use Rattle.text.specs.Line.{codes, decimal, lineText, added, item}
 use Rattle.report.specs.States.{countsText}
-use Rattle.protocol.specs.declared.Sides.{Sides}
+use Rattle.state.specs.declared.Sides.{Sides}
 use Rattle.text.proofs.Lines.{added-twice}
 use Rattle.report.proofs.states.session_line.Statement.{statement}
 use Rattle.report.proofs.states.session_line.Tie as tie

@@ -2,9 +2,9 @@
 use mathlib.Core.Path.{sym, ap, _∙_}
 use borrow.Author.Needs.{needs}
 use Rattle.script_words.proofs.Texts.{told}
-use Rattle.script_words.specs.declared.Id.{Id}
+use Rattle.decimal.specs.declared.Id.{Id}
 use Rattle.script_words.specs.Words.{tailOf}
-use Rattle.script_words.specs.Numbers.{numberOf, idFrom}
+use Rattle.decimal.specs.Numbers.{numberOf, idFrom}
 use Rattle.script.specs.Calls.{sessionLine, grantLine, onId}
 use Rattle.script.proofs.calls.grant.Statement.{statement}
 use Rattle.script.proofs.calls.grant.Tie as tie

@@ -2,9 +2,9 @@
 use mathlib.Core.Path.{sym, ap, _∙_}
 use borrow.Author.Needs.{needs}
 use Rattle.script_words.proofs.Texts.{told}
-use Rattle.script_words.specs.declared.Number.{Number}
+use Rattle.decimal.specs.declared.Number.{Number}
 use Rattle.script.specs.declared.Call.the-variants as call
-use Rattle.script_words.specs.Numbers.{numberOf}
+use Rattle.decimal.specs.Numbers.{numberOf}
 use Rattle.script.specs.Calls.{grantLine, onNumber, withRoom}
 use Rattle.script.proofs.calls.grant_of.Statement.{statement}
 use Rattle.script.proofs.calls.grant_of.Tie as tie

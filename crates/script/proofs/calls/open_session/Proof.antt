@@ -1,7 +1,7 @@
 -- `open_session` meets its contract: each arm of the code is a case of the definition.
 use mathlib.Core.Path.{sym, ap, _∙_}
 use borrow.Author.Needs.{needs}
-use Rattle.script_words.specs.declared.Id.{Id}
+use Rattle.decimal.specs.declared.Id.{Id}
 use Rattle.script.specs.declared.Call.the-variants as call
 use Rattle.script.specs.declared.Line.the-variants as line
 use Rattle.script.specs.Calls.{openLine, onId, usualRoom}

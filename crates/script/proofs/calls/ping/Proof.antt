@@ -2,9 +2,9 @@
 use mathlib.Core.Path.{sym, ap, _∙_}
 use borrow.Author.Needs.{needs}
 use Rattle.script_words.proofs.Texts.{told}
-use Rattle.script_words.specs.declared.Short.{Short}
+use Rattle.decimal.specs.declared.Short.{Short}
 use Rattle.script.specs.declared.Call.the-variants as call
-use Rattle.script_words.specs.Numbers.{numberOf, shortFrom}
+use Rattle.decimal.specs.Numbers.{numberOf, shortFrom}
 use Rattle.script.specs.Calls.{pingLine, onShort, withRoom}
 use Rattle.script.proofs.calls.ping.Statement.{statement}
 use Rattle.script.proofs.calls.ping.Tie as tie

@@ -2,13 +2,13 @@
 use mathlib.Core.Path.{sym, ap, _∙_}
 use borrow.Author.Needs.{needs}
 use Rattle.script_words.proofs.Texts.{told}
-use Rattle.script_words.specs.declared.Id.{Id}
+use Rattle.decimal.specs.declared.Id.{Id}
 use Rattle.script.specs.declared.Call.the-variants as call
 use Rattle.script.specs.declared.Line.the-variants as line
 use Rattle.laws.specs.Pick.{pick}
 use Rattle.script_words.specs.Words.{tailOf}
 use Rattle.script_words.specs.Hex.{isBytes}
-use Rattle.script_words.specs.Numbers.{numberOf, idFrom}
+use Rattle.decimal.specs.Numbers.{numberOf, idFrom}
 use Rattle.script.specs.Calls.{putLine, onId, usualRoom}
 use Rattle.laws.proofs.Pick.{yes, no}
 use Rattle.script.proofs.calls.put.Statement.{statement}

@@ -2,7 +2,7 @@
 use mathlib.Core.Path.{sym, ap, _∙_}
 use borrow.Author.Needs.{needs}
 use Rattle.script.specs.Calls.{queueLine, onId}
-use Rattle.script_words.specs.declared.Id.{Id}
+use Rattle.decimal.specs.declared.Id.{Id}
 use Rattle.script.specs.declared.Line.the-variants as line
 use Rattle.script.proofs.calls.queue.Statement.{statement}
 use Rattle.script.proofs.calls.queue.Tie as tie

@@ -2,8 +2,8 @@
 use mathlib.Core.Path.{sym, ap, _∙_}
 use borrow.Author.Needs.{needs}
 use Rattle.script_words.proofs.Texts.{told}
-use Rattle.script_words.specs.declared.Short.{Short}
-use Rattle.script_words.specs.Numbers.{numberOf, shortFrom}
+use Rattle.decimal.specs.declared.Short.{Short}
+use Rattle.decimal.specs.Numbers.{numberOf, shortFrom}
 use Rattle.script.specs.Calls.{withHeader, withQueue, headerFrom}
 use Rattle.laws.proofs.Pick.{yes, no}
 use Rattle.script.proofs.calls.with_header.Statement.{statement}

@@ -3,7 +3,7 @@ use mathlib.Core.Path.{sym, ap, _∙_}
 use borrow.Author.Needs.{needs}
 use Rattle.script_words.proofs.Texts.{told}
 use Rattle.script_words.specs.Words.{codes, same}
-use Rattle.script_words.specs.Numbers.{numberOf, sizeFrom}
+use Rattle.decimal.specs.Numbers.{numberOf, sizeFrom}
 use Rattle.script.specs.Calls.{withQueue, queueFrom}
 use Rattle.laws.proofs.Pick.{yes, no}
 use Rattle.script.proofs.calls.with_queue.Statement.{statement}

@@ -4,7 +4,7 @@ use Rattle.session.proofs.parts.settled.Statement.{statement}
 use Rattle.session.proofs.parts.settled.Tie as tie
 
 returns : tie.Need-returns
-returns c = cc
+returns c = rw (c .becomes .ensures)
 
 pub settled-spec : {M : Type 1} → statement M
 settled-spec = tie.close (tie.spec (λ c κs. search needs) returns)

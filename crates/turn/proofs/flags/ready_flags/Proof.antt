@@ -4,7 +4,7 @@ use Prim.Native.Nat.{ℕ, _-_, _≤_}
 use native.Mathlib.Omega.{arith}
 use lib.ListN.{length, replicate, length-set}
 use borrow.Author.Needs.{needs}
-use Rattle.protocol.specs.Session.{blank}
+use Rattle.state.specs.New.{blank}
 use Rattle.turn.specs.Ready.{flagOf}
 use Rattle.turn.proofs.Ready.{fillTo, fill-step, fill-zero, fill-end}
 use Rattle.turn.proofs.flags.ready_flags.Statement.{statement}

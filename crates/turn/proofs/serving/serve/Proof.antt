@@ -2,7 +2,7 @@
 use mathlib.Core.Path.{ap, _∙_}
 use denote.Ref.{now}
 use borrow.Author.Needs.{needs}
-use Rattle.protocol.specs.declared.Session.{Session}
+use Rattle.state.specs.declared.Session.{Session}
 use Rattle.protocol.specs.Ask.{turnAsk}
 use Rattle.protocol.specs.Connection.{at, ownStart, farStart}
 use Rattle.protocol.specs.Judge.{served, with-session}

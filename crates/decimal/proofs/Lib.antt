@@ -1,0 +1,2 @@
+-- The laws of numbers in a text.
+pub mod Values

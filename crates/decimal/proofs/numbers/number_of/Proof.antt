@@ -1,0 +1,39 @@
+-- `number_of` meets its contract: each test of the code is one of the definition.
+use mathlib.Core.Path.{sym, _∙_}
+use borrow.Author.Tests.{eq-eqb, ne-eqb}
+use borrow.Author.Needs.{needs}
+use Rattle.decimal.specs.Numbers.{numberOf}
+use Rattle.laws.proofs.Pick.{yes, no}
+use Rattle.decimal.proofs.numbers.number_of.Statement.{statement}
+use Rattle.decimal.proofs.numbers.number_of.Tie as tie
+
+returns : tie.Need-returns
+unfolding numberOf
+returns c =
+    sym (yes _ _ _ (eq-eqb _ _ (c .if1 .taken)))
+
+returns-2 : tie.Need-returns-2
+unfolding numberOf
+returns-2 c =
+    let if1 = c .before .before .before .if1 in
+    sym (no _ _ _ (ne-eqb _ _ (if1 .left)) ∙ yes _ _ _ (eq-eqb _ _ (c .before .if2 .taken)) ∙ yes _ _ _ (eq-eqb _ _
+    (c .if3 .taken)))
+
+returns-3 : tie.Need-returns-3
+unfolding numberOf
+returns-3 c =
+    let if1 = c .before .before .before .if1 in
+    sym (no _ _ _ (ne-eqb _ _ (if1 .left)) ∙ yes _ _ _ (eq-eqb _ _ (c .before .if2 .taken)) ∙ no _ _ _ (ne-eqb _ _
+    (c .if3 .left)))
+
+returns-4 : tie.Need-returns-4
+unfolding numberOf
+returns-4 c =
+    let if1 = c .before .before .before .if1 in
+    c .digits .ensures ∙ sym (no _ _ _ (ne-eqb _ _ (if1 .left)) ∙ no _ _ _ (ne-eqb _ _ (c .before .if2 .left)))
+
+pub number-of-spec : {M : Type 1} → statement M
+number-of-spec =
+    tie.close
+    (tie.spec
+    returns (λ c. search needs) returns-2 returns-3 (λ c κs. search needs) returns-4)

@@ -1,0 +1,2 @@
+-- The definitions of the numbers in a text.
+pub mod Numbers

@@ -1,0 +1,2 @@
+-- The definition of which messages one end writes.
+pub mod Own

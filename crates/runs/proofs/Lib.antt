@@ -1,0 +1,7 @@
+-- Runs from a connection just made, and what their logs tell.
+pub mod Played
+pub mod Case6
+pub mod ServerRun
+pub mod Lapses
+pub mod Filling
+pub mod Full
