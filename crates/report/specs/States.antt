@@ -3,9 +3,6 @@ use Prim.Native.Nat.{ℕ}
 use mathlib.Core.Bool.{Bool, true, false}
 use mathlib.Core.List.{List, [], _++_}
 use Rattle.ration.specs.declared.Ration.{Ration}
-use Rattle.ration.specs.declared.Ration.the-variants as ration
-use Rattle.wire.specs.declared.Role.{Role}
-use Rattle.wire.specs.declared.Role.the-variants as role
 use Rattle.state.specs.declared.Connection.{Connection}
 use Rattle.state.specs.declared.Outcome.{Outcome}
 use Rattle.state.specs.declared.Outcome.the-variants as outcome
@@ -18,13 +15,10 @@ use Rattle.state.specs.declared.Sides.{Sides}
 use Rattle.state.specs.declared.Sides.the-variants as sides
 use Rattle.state.specs.declared.Stage.{Stage}
 use Rattle.state.specs.declared.Stage.the-variants as stage
-use Rattle.text.specs.Line.{codes, decimal, item, flag}
+use Rattle.state_text.specs.Parts.{roleText, sidesText, outcomeText, rationText}
+use Rattle.text.specs.Line.{codes, item, flag}
 
 -- ---- a connection
-
-abbrev pub roleText : Role → List ℕ
-roleText role.Client = codes " client"
-roleText role.Server = codes " server"
 
 abbrev pub stageText : Stage → List ℕ
 stageText (stage.Fresh r) = roleText r ++ codes " fresh"
@@ -39,27 +33,6 @@ abbrev pub connectionText : Connection → List ℕ
 connectionText c = codes "connection" ++ stageText (c .stage) ++ flag " over" (c .over) ++ item " last " (c .last) ++ pingText (c .ping)
 
 -- ---- a session
-
-abbrev pub sideText : Side → List ℕ
-sideText side.Open = codes " open"
-sideText side.Finished = codes " finished"
-sideText side.Ended = codes " ended"
-
-abbrev pub sidesText : Sides → List ℕ
-sidesText sides.Idle = codes " idle none"
-sidesText (sides.Opening b) = codes " opening none"
-sidesText (sides.Live ours theirs) = sideText ours ++ sideText theirs
-
-abbrev pub outcomeText : Outcome → List ℕ
-outcomeText outcome.None = codes " outcome none"
-outcomeText outcome.Running = codes " outcome running"
-outcomeText outcome.Complete = codes " outcome complete"
-outcomeText outcome.MayRetry = codes " outcome retry"
-outcomeText outcome.MustNotRetry = codes " outcome no-retry"
-
-abbrev pub rationText : Ration → List ℕ
-rationText (ration.Finite n) = decimal n
-rationText ration.Endless = codes "endless"
 
 abbrev pub waitingText : ℕ → Bool → List ℕ
 waitingText n finish = item " waiting " n ++ flag " finish" finish

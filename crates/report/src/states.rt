@@ -7,21 +7,15 @@ use state::Session;
 use state::Side;
 use state::Sides;
 use state::Stage;
+use state_text::with_outcome;
+use state_text::with_ration;
+use state_text::with_role;
+use state_text::with_sides;
 use text::Line;
-use wire::Role;
 ghost use mathlib.Core.Path.{_≡_};
 ghost use mathlib.Core.List.{[]};
 ghost use Rattle.text.specs.Line.{lineText, added};
-ghost use Rattle.report.specs.States.{roleText, stageText, pingText, connectionText, sideText, sidesText, outcomeText, rationText, waitingText, inText, outText, liveText, sessionText, hasOutcome, shownBy};
-
-fn with_role(line: Line, role: Role) -> Line
-    ensures { λ r. ⌜ lineText r ≡ added (lineText line) (roleText role) ⌝ }
-{
-    match role {
-        Role::Client => line.text(b" client"),
-        Role::Server => line.text(b" server"),
-    }
-}
+ghost use Rattle.report.specs.States.{stageText, pingText, connectionText, waitingText, inText, outText, liveText, sessionText, hasOutcome, shownBy};
 
 fn with_stage(line: Line, stage: Stage) -> Line
     ensures { λ r. ⌜ lineText r ≡ added (lineText line) (stageText stage) ⌝ }
@@ -52,47 +46,6 @@ pub fn connection_line(c: Connection) -> Line
         .flag(b" over", c.over)
         .item(b" last ", c.last as u64);
     with_ping(line, ping)
-}
-
-fn with_side(line: Line, side: Side) -> Line
-    ensures { λ r. ⌜ lineText r ≡ added (lineText line) (sideText side) ⌝ }
-{
-    match side {
-        Side::Open => line.text(b" open"),
-        Side::Finished => line.text(b" finished"),
-        Side::Ended => line.text(b" ended"),
-    }
-}
-
-fn with_sides(line: Line, sides: Sides) -> Line
-    ensures { λ r. ⌜ lineText r ≡ added (lineText line) (sidesText sides) ⌝ }
-{
-    match sides {
-        Sides::Idle => line.text(b" idle none"),
-        Sides::Opening(_) => line.text(b" opening none"),
-        Sides::Live(ours, theirs) => with_side(with_side(line, ours), theirs),
-    }
-}
-
-fn with_outcome(line: Line, outcome: Outcome) -> Line
-    ensures { λ r. ⌜ lineText r ≡ added (lineText line) (outcomeText outcome) ⌝ }
-{
-    match outcome {
-        Outcome::None => line.text(b" outcome none"),
-        Outcome::Running => line.text(b" outcome running"),
-        Outcome::Complete => line.text(b" outcome complete"),
-        Outcome::MayRetry => line.text(b" outcome retry"),
-        Outcome::MustNotRetry => line.text(b" outcome no-retry"),
-    }
-}
-
-fn with_ration(line: Line, ration: Ration) -> Line
-    ensures { λ r. ⌜ lineText r ≡ added (lineText line) (rationText ration) ⌝ }
-{
-    match ration {
-        Ration::Finite(n) => line.number(n as u64),
-        Ration::Endless => line.text(b"endless"),
-    }
 }
 
 fn with_out(line: Line, ration: Ration) -> Line

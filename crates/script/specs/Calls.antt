@@ -14,14 +14,15 @@ use Rattle.decimal.specs.declared.Short.{Short}
 use Rattle.decimal.specs.declared.Short.the-variants as short
 use Rattle.decimal.specs.declared.Size.{Size}
 use Rattle.decimal.specs.declared.Size.the-variants as size
-use Rattle.script.specs.declared.names.Name.{Name}
-use Rattle.script.specs.declared.names.Name.the-variants as name
+use Rattle.call_names.specs.declared.Name.{Name}
+use Rattle.call_names.specs.declared.Name.the-variants as name
 use Rattle.script.specs.declared.Call.{Call}
 use Rattle.script.specs.declared.Call.the-variants as call
 use Rattle.script.specs.declared.Line.{Line}
 use Rattle.script.specs.declared.Line.the-variants as line
 use Rattle.script.specs.declared.Beginning.{Beginning}
 use Rattle.script.specs.declared.Beginning.the-variants as beginning
+use Rattle.call_names.specs.Names.{nameOf}
 use Rattle.script_words.specs.Words.{codes, headOf, tailOf, hasMore, same}
 use Rattle.decimal.specs.Numbers.{numberOf, idFrom, shortFrom, sizeFrom}
 use Rattle.script_words.specs.Hex.{isBytes}
@@ -95,35 +96,6 @@ unfoldable pub sessionLine : (ℕ → List ℕ → Line) → List ℕ → Line
 sessionLine f s = onId (idFrom (numberOf (headOf s))) (λ n. f n (tailOf s))
 
 -- ---- a line
-
-unfoldable pub sessionName : List ℕ → Name
-sessionName w =
-    pick (same w (codes "open")) name.Open
-    (pick (same w (codes "put")) name.Put
-    (pick (same w (codes "finish")) name.Finish
-    (pick (same w (codes "grant")) name.Grant
-    (pick (same w (codes "abort")) name.Abort
-    (pick (same w (codes "close")) name.Close (pick (same w (codes "queue")) name.Queue name.Unknown))))))
-
-unfoldable pub nameOf : List ℕ → Name
-nameOf w =
-    pick (same w (codes "turn")) name.Turn
-    (pick (same w (codes "receive")) name.Receive
-    (pick (same w (codes "start")) name.Start
-    (pick (same w (codes "ping")) name.Ping
-    (pick (same w (codes "shutdown")) name.Shutdown
-    (pick (same w (codes "lost")) name.Lost (pick (same w (codes "state")) name.State (sessionName w)))))))
-
--- the later tests of a name, which the code makes apart
-unfoldable pub otherSessionName : List ℕ → Name
-otherSessionName w =
-    pick (same w (codes "abort")) name.Abort
-    (pick (same w (codes "close")) name.Close (pick (same w (codes "queue")) name.Queue name.Unknown))
-
-unfoldable pub otherName : List ℕ → Name
-otherName w =
-    pick (same w (codes "shutdown")) name.Shutdown
-    (pick (same w (codes "lost")) name.Lost (pick (same w (codes "state")) name.State (sessionName w)))
 
 -- a line by the name of its call, with what stands behind the name
 abbrev pub lineAs : Name → List ℕ → List ℕ → Line

@@ -2,8 +2,8 @@
 use crate::Beginning;
 use crate::Call;
 use crate::Line;
-use crate::names::Name;
-use crate::names::name_of;
+use call_names::Name;
+use call_names::name_of;
 use decimal::Id;
 use decimal::Number;
 use decimal::Short;

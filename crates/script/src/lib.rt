@@ -1,6 +1,5 @@
 // The script of a replay: what a line asks.
 mod calls;
-mod names;
 
 pub use calls::begin;
 pub use calls::payload;

@@ -3,8 +3,9 @@ use mathlib.Core.Path.{sym, ap, _∙_}
 use borrow.Author.Needs.{needs}
 use Rattle.script_words.proofs.Texts.{told}
 use Rattle.script_words.specs.Words.{tailOf}
-use Rattle.script.specs.Calls.{nameOf, lineAs, lineOf, openLine, putLine, finishLine, sessionLine, grantLine, abortLine, closeLine, pingLine, receiveLine, queueLine}
-use Rattle.script.specs.declared.names.Name.{Name}
+use Rattle.script.specs.Calls.{lineAs, lineOf, openLine, putLine, finishLine, sessionLine, grantLine, abortLine, closeLine, pingLine, receiveLine, queueLine}
+use Rattle.call_names.specs.declared.Name.{Name}
+use Rattle.call_names.specs.Names.{nameOf}
 use Rattle.script.proofs.calls.read.Statement.{statement}
 use Rattle.script.proofs.calls.read.Tie as tie
 

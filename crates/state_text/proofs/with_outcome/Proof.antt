@@ -1,7 +1,7 @@
 -- `with_outcome` meets its contract: each arm of the code is a case of the definition.
 use borrow.Author.Needs.{needs}
-use Rattle.report.proofs.states.with_outcome.Statement.{statement}
-use Rattle.report.proofs.states.with_outcome.Tie as tie
+use Rattle.state_text.proofs.with_outcome.Statement.{statement}
+use Rattle.state_text.proofs.with_outcome.Tie as tie
 
 returns : tie.Need-returns
 returns c =

@@ -1,7 +1,7 @@
 -- `with_role` meets its contract: each arm of the code is a case of the definition.
 use borrow.Author.Needs.{needs}
-use Rattle.report.proofs.states.with_role.Statement.{statement}
-use Rattle.report.proofs.states.with_role.Tie as tie
+use Rattle.state_text.proofs.with_role.Statement.{statement}
+use Rattle.state_text.proofs.with_role.Tie as tie
 
 returns : tie.Need-returns
 returns c =

@@ -1,8 +1,8 @@
 -- `with_sides` meets its contract: each arm of the code is a case of the definition.
 use borrow.Author.Needs.{needs}
 use Rattle.text.proofs.Lines.{added-twice}
-use Rattle.report.proofs.states.with_sides.Statement.{statement}
-use Rattle.report.proofs.states.with_sides.Tie as tie
+use Rattle.state_text.proofs.with_sides.Statement.{statement}
+use Rattle.state_text.proofs.with_sides.Tie as tie
 
 returns : tie.Need-returns
 returns c =

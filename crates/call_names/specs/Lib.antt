@@ -1,0 +1,2 @@
+-- The names of the calls in a script.
+pub mod Names

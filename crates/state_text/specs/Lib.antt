@@ -1,0 +1,2 @@
+-- The words of the parts of a state.
+pub mod Parts
