@@ -1,2 +1,2 @@
--- The laws of numbers in a text.
+-- Laws of digits.
 pub mod Values

@@ -1,5 +1,6 @@
 -- Decimal numbers in a text: no sign, no leading zero, at most nine digits.
 use Prim.Native.Nat.{ℕ, _+_, _*_, _-_}
+use mathlib.Core.Bool.{Bool, true, false, _&&_}
 use mathlib.Core.List.{List, [], _∷_}
 use lib.Dec.{eqb, ltb, leb}
 use lib.ListN.{length, getD}
@@ -13,26 +14,32 @@ use Rattle.decimal.specs.declared.Short.the-variants as short
 use Rattle.decimal.specs.declared.Size.{Size}
 use Rattle.decimal.specs.declared.Size.the-variants as size
 
--- a digit, whose code is 48 to 57, behind a value; a value of nine digits takes no tenth
-unfoldable pub grown : ℕ → ℕ → Number
-grown v b =
-    pick (ltb b 48) number.Not
-    (pick (ltb 57 b) number.Not (pick (ltb v 100000000) (number.Is (v * 10 + (b - 48))) number.Not))
+-- the codes of the digits 0 to 9
+abbrev pub isDigit : ℕ → Bool
+isDigit b = leb 48 b && leb b 57
 
-abbrev pub onNumber : Number → (ℕ → Number) → Number
-onNumber (number.Is n) f = f n
-onNumber number.Not f = number.Not
+unfoldable pub allDigits : List ℕ → Bool
+allDigits [] = true
+allDigits (b ∷ s) = isDigit b && allDigits s
 
--- the digits of a text behind a value
-unfoldable pub valueOf : ℕ → List ℕ → Number
-valueOf v [] = number.Is v
-valueOf v (b ∷ s) = onNumber (grown v b) (λ w. valueOf w s)
+-- the value of a text of digits behind a value: each further digit makes it ten times as large
+unfoldable pub valueFrom : ℕ → List ℕ → ℕ
+valueFrom v [] = v
+valueFrom v (b ∷ s) = valueFrom (v * 10 + (b - 48)) s
 
--- no sign, and no leading zero but in 0 itself
+-- no leading zero but in 0 itself
+abbrev pub leadsWithZero : List ℕ → Bool
+leadsWithZero s = ltb 1 (length s) && eqb (getD s 0 0) 48
+
+-- a text of digits alone is its value
+unfoldable pub digitsOf : List ℕ → Number
+digitsOf s = pick (allDigits s) (number.Is (valueFrom 0 s)) number.Not
+
+-- one to nine digits with no leading zero
 unfoldable pub numberOf : List ℕ → Number
 numberOf s =
     pick (eqb (length s) 0) number.Not
-    (pick (eqb (getD s 0 0) 48) (pick (eqb (length s) 1) (number.Is 0) number.Not) (valueOf 0 s))
+    (pick (ltb 9 (length s)) number.Not (pick (leadsWithZero s) number.Not (digitsOf s)))
 
 -- a number of at most 255
 unfoldable pub idFrom : Number → Id

@@ -4,51 +4,54 @@ use crate::Number;
 use crate::Short;
 use crate::Size;
 ghost use mathlib.Core.Path.{_≡_};
-ghost use Rattle.decimal.specs.Numbers.{grown as Numbers·grown, valueOf, numberOf, idFrom, shortFrom, sizeFrom};
+ghost use Prim.Native.Nat.{_≤_};
+ghost use lib.ListN.{length};
+ghost use Rattle.decimal.specs.Numbers.{isDigit, leadsWithZero, digitsOf, numberOf, idFrom, shortFrom, sizeFrom};
 
-// The value with a digit behind it; a value of nine digits takes no tenth.
-fn grown(value: u32, b: u8) -> Number
-    ensures { λ r. ⌜ r ≡ Numbers·grown value b ⌝ }
+// Whether a byte is a digit.
+fn is_digit(b: u8) -> bool
+    ensures { λ r. ⌜ r ≡ isDigit b ⌝ }
 {
-    if b < 48 {
-        return Number::Not;
-    }
-    if 57 < b {
-        return Number::Not;
-    }
-    if value < 100000000 {
-        Number::Is(value * 10 + ((b - 48) as u32))
-    } else {
-        Number::Not
-    }
+    (48 <= b) & (b <= 57)
 }
 
+// The value of a text of at most nine bytes that are all digits.
 fn digits(s: &[u8]) -> Number
-    ensures { λ r. ⌜ r ≡ valueOf 0 (now (s .entry)) ⌝ }
+    requires { ⌜ length (now s) ≤ 9 ⌝ }
+    ensures { λ r. ⌜ r ≡ digitsOf (now (s .entry)) ⌝ }
 {
     let mut value: u32 = 0;
     let mut i = 0;
     while i < s.len() {
-        let Number::Is(v) = grown(value, s[i]) else {
+        let b = s[i];
+        if is_digit(b) {
+            value = value * 10 + ((b - 48) as u32);
+        } else {
             return Number::Not;
-        };
-        value = v;
+        }
         i += 1;
     }
     Number::Is(value)
 }
 
-// A decimal number with no sign and no leading zero.
+// A text of several bytes whose first is 0.
+fn leads_with_zero(s: &[u8]) -> bool
+    ensures { λ r. ⌜ r ≡ leadsWithZero (now (s .entry)) ⌝ }
+{
+    if 1 < s.len() { s[0] == 48 } else { false }
+}
+
+// A decimal number of at most nine digits, with no sign and no leading zero.
 pub fn number_of(s: &[u8]) -> Number
     ensures { λ r. ⌜ r ≡ numberOf (now (s .entry)) ⌝ }
 {
     if s.len() == 0 {
         return Number::Not;
     }
-    if s[0] == 48 {
-        if s.len() == 1 {
-            return Number::Is(0);
-        }
+    if 9 < s.len() {
+        return Number::Not;
+    }
+    if leads_with_zero(s) {
         return Number::Not;
     }
     digits(s)
