@@ -1,12 +1,12 @@
--- A slot that is changed is the one that was meant, and no other: laws of the queue, from its definitions.
+-- A slot that is changed is the one that was meant, and no other, and ends in zeros: laws of the queue, from its definitions.
 use mathlib.Core.Path.{_≡_, sym, ap, _∙_}
 use mathlib.Core.Logic.{_≢_}
 use mathlib.Core.List.{List, _++_}
 use Prim.Native.Nat.{ℕ, _+_, _-_, _*_, _≤_, _<_}
 use native.Mathlib.Decide.{decLt}
 use native.Mathlib.Omega.{arith}
-use lib.ListN.{length, take, drop, length-append, length-take, length-drop, length-replicate}
-use lib.Seq.{take-at, drop-at, length-take-le, take-append-le, drop-append-le, drop-append-add, drop-drop, take-take}
+use lib.ListN.{length, take, drop, getD, length-append, length-take, length-drop, length-replicate, getD-replicate}
+use lib.Seq.{getD-append-add, take-at, drop-at, length-take-le, take-append-le, drop-append-le, drop-append-add, drop-drop, take-take}
 use Rattle.laws.proofs.Lists.{take-drop}
 use Rattle.protocol.specs.Slot.{slotSize, queueSize}
 use Rattle.protocol.specs.Queue.{slot, withSlot, padded, afterPut, putSlot, afterTurn, turnSlot}
@@ -20,6 +20,19 @@ put-length w bytes s h k =
 
 pub turn-length : (w n : ℕ) (s : List ℕ) → w ≤ slotSize → length (turnSlot w n s) ≡ slotSize
 turn-length w n s h = padded-length (afterTurn w n s) (simp length-take (omega arith))
+
+-- what stands behind the bytes of a slot that is served is zeros up to its end
+pub padded-zeros : (bytes : List ℕ) (k : ℕ) → length bytes ≤ k → k < slotSize → getD (padded bytes) k 1 ≡ 0
+padded-zeros bytes k h l =
+    let at : length bytes + (k - length bytes) ≡ k = omega arith in
+    ap (λ (i : ℕ). getD (padded bytes) i 1) (sym at) ∙ getD-append-add bytes _ (k - length bytes) 1
+    ∙ getD-replicate (slotSize - length bytes) (k - length bytes) 0 1 (omega arith)
+
+pub put-zeros : (w : ℕ) (bytes s : List ℕ) (k : ℕ) → w ≤ length s → w + length bytes ≤ k → k < slotSize → getD (putSlot w bytes s) k 1 ≡ 0
+put-zeros w bytes s k h g l = padded-zeros (afterPut w bytes s) k (simp (length-append, length-take) (omega arith)) l
+
+pub turn-zeros : (w n : ℕ) (s : List ℕ) (k : ℕ) → w - n ≤ k → k < slotSize → getD (turnSlot w n s) k 1 ≡ 0
+turn-zeros w n s k g l = padded-zeros (afterTurn w n s) k (simp length-take (omega arith)) l
 
 pub slot-length : (n : ℕ) (q : List ℕ) → n < 128 → length q ≡ queueSize → length (slot n q) ≡ slotSize
 slot-length n q h e = length-take-le slotSize (drop (n * slotSize) q) (simp length-drop (omega arith))

@@ -2,6 +2,8 @@
 pub mod Played
 pub mod Case6
 pub mod ServerRun
+pub mod Ledgers
+pub mod Breaks
 pub mod Lapses
 pub mod Filling
 pub mod Full

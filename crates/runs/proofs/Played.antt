@@ -1,9 +1,9 @@
 -- What the runs that are computed share: two ends just made, a queue, rooms, and under one name all that a run computes with.
-use mathlib.Core.List.{List, []}
+use mathlib.Core.List.{List, [], _∷_}
 use Prim.Native.Nat.{ℕ}
 use lib.ListN.{replicate}
 use Rattle.laws.specs.Pick.{pick}
-use Rattle.laws.specs.Result.{ok, refused}
+use Rattle.laws.specs.Result.{ok, refused, violation}
 use Rattle.laws.specs.Circle.{following, firstAfter, nearest}
 use Rattle.laws.specs.Runs.{run, logOf, fold, Every, gather}
 use Rattle.ration.specs.Ration.{fromHeader}
@@ -23,12 +23,15 @@ use Rattle.protocol.specs.Call.{startRule, openRule, putRule, finishRule, turnR
 use Rattle.protocol.specs.Result.{bytesOfAll}
 use Rattle.history.specs.Log.{Call, start, turn, receive, Entry, next, out, log}
 use Rattle.history.specs.Account.{accountAfter, observed}
+use Rattle.history.specs.Sums.{sumAfter, summed}
+use Rattle.history.specs.Fates.{fatedAfter, fateTold}
 
 -- whoever unfolds this unfolds the rules, the reader and what a log tells
 unfoldable pub played : Setup → List ℕ → List Call → List Entry
 unfolding run logOf fold Every gather pick following firstAfter nearest fromHeader kindOf readMessage parseHeader typed allowed effectiveIncrement
     readConnectionHeader parseConnectionHeader settle wellFormed allFormed sessionFormed receipt ask.ready openAsk putAsk finishAsk grantAsk abortAsk closeAsk turnAsk
     judge startRule openRule putRule finishRule turnRule grantRule abortRule closeRule pingRule shutdownRule lostRule receiveRule bytesOfAll next out accountAfter observed
+    sumAfter summed fatedAfter fateTold
 played setup queue calls = log setup queue calls
 
 -- ---- two ends just made, with the header numbers 8 and 4
@@ -72,3 +75,7 @@ took used input r bytes = record { call = receives input; answer = ok r; used = 
 
 abbrev pub refuses : Call → ℕ → Entry
 refuses k n = record { call = k; answer = refused n; used = 0; start = 0; end = 0; wrote = [] }
+
+-- a violation: nothing is used, and Error is written
+abbrev pub breaks : List ℕ → ℕ → Entry
+breaks input n = record { call = receives input; answer = violation n; used = 0; start = 0; end = 0; wrote = 0x08 ∷ 0x00 ∷ 0x00 ∷ 0x00 ∷ [] }

@@ -11,10 +11,12 @@ use state::Side;
 use state::Sides;
 ghost use mathlib.Core.Path.{_≡_};
 ghost use mathlib.Core.Bool.{not, false};
+ghost use mathlib.Core.List.{[], _∷_};
 ghost use Prim.Native.Nat.{_-_};
+ghost use Rattle.protocol.specs.Message.{data-of};
 ghost use Rattle.protocol.specs.Plan.{check};
 ghost use Rattle.protocol.specs.Ask.{positive as Ask·positive, due as Ask·due, ready as Ask·ready, smaller as Ask·smaller, sending as Ask·sending, turnOf, turnAsk};
-ghost use Rattle.session.specs.Step.{askedAs, toAsked};
+ghost use Rattle.session.specs.Step.{sentAs, askedAs, toAsked};
 
 // Whether a ration is above 0.
 fn positive(r: Ration) -> bool
@@ -75,6 +77,13 @@ fn left_after(waiting: u16, n: u16) -> u16
     if n <= waiting { waiting - n } else { 0 }
 }
 
+// The Data message of a turn.
+fn message(length: u16, opens: bool, eof: bool) -> Sent
+    ensures { λ r. ⌜ sentAs r ≡ data-of length opens false eof false ∷ [] ⌝ }
+{
+    Sent::Data { length, opens, eof }
+}
+
 // A Data message of n bytes goes out, and these are the rations.
 fn send(x: Session, opens: bool, theirs: Side, outbound: Ration, inbound: Ration, n: u16) -> Asked
     ensures { λ r. ⌜ askedAs r ≡ toAsked (Ask·sending x opens theirs outbound inbound n) ⌝ }
@@ -93,14 +102,7 @@ fn send(x: Session, opens: bool, theirs: Side, outbound: Ration, inbound: Ration
         finish: x.finish & !eof,
         outcome,
     };
-    taken(
-        next,
-        Sent::Data {
-            length: n,
-            opens,
-            eof,
-        },
-    )
+    taken(next, message(n, opens, eof))
 }
 
 // Serves a session whose own side is open.

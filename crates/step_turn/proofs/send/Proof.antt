@@ -6,10 +6,10 @@ use Rattle.step_turn.proofs.send.Tie as tie
 
 returns : tie.Need-returns
 unfolding settle
-returns c = simp (c .taken .ensures, c .before .before .less .ensures, c .before .before .before .after-data .ensures, c .before .before .before .before .before .left-after .ensures)
+returns c = simp (c .taken .ensures, c .before .message .ensures, c .before .before .before .less .ensures, c .before .before .before .before .after-data .ensures, c .before .before .before .before .before .before .left-after .ensures)
 
 pub send-spec : {M : Type 1} → statement M
 send-spec =
     tie.close
     (tie.spec
-    (λ c κs. search needs) (λ c κs. search needs) (λ c κs. search needs) (λ c κs. search needs) returns)
+    (λ c κs. search needs) (λ c κs. search needs) (λ c κs. search needs) (λ c κs. search needs) (λ c κs. search needs) returns)
