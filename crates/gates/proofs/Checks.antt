@@ -4,7 +4,13 @@ use mathlib.Core.Bool.{Bool, true, false}
 use Prim.Native.Nat.{ℕ}
 use Rattle.laws.specs.Result.{Result, ok, refused}
 use Rattle.protocol.specs.Plan.{Plan, stop, check, take, settle}
-use Rattle.gates.specs.Gate.{toGate, further, followedBy, behind}
+use Rattle.gates.specs.Gate.{toGate, further, behind}
+
+-- the checks of a first rule, then a second rule
+abbrev pub followedBy : {A : Type 0} → Plan Unit → Plan A → Plan A
+followedBy (stop n) rest = stop n
+followedBy (check b n p) rest = check b n (followedBy p rest)
+followedBy (take u) rest = rest
 
 -- one check more
 pub further-check : (p : Plan Unit) (b : Bool) (n : ℕ) → further (toGate p) b n ≡ toGate (followedBy p (check b n (take tt)))

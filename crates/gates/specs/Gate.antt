@@ -3,7 +3,7 @@ use Prim.Native.Nat.{ℕ}
 use mathlib.Core.Bool.{Bool, true, false}
 use Rattle.laws.specs.Result.{Result, ok, refused, violation}
 use Rattle.refusal.specs.Number.{refusalNumber}
-use Rattle.protocol.specs.Plan.{Plan, stop, check, take, settle}
+use Rattle.protocol.specs.Plan.{Plan, settle}
 use Rattle.gates.specs.declared.Gate.{Gate}
 use Rattle.gates.specs.declared.Gate.the-variants as gate
 
@@ -20,12 +20,6 @@ further (ok u) true n = refused n
 further (ok u) false n = ok u
 further (refused m) fails n = refused m
 further (violation m) fails n = violation m
-
--- the checks of a first rule, then a second rule
-abbrev pub followedBy : {A : Type 0} → Plan Unit → Plan A → Plan A
-followedBy (stop n) rest = stop n
-followedBy (check b n p) rest = check b n (followedBy p rest)
-followedBy (take u) rest = rest
 
 -- what a rule comes to behind a gate
 abbrev pub behind : {B : Type 0} → Result Unit → (ℕ → B) → B → B

@@ -51,17 +51,28 @@ farStart c = fromHeader (farNumber (c .stage))
 
 -- ---- well formed
 
--- no opening at a server, all numbers idle before the headers
+-- waiting at most a slot
+abbrev pub waitingFits : Session → Bool
+waitingFits x = leb (x .waiting) slotSize
+
+-- and 0 unless our side is opening or open
+abbrev pub waitingPlaced : Session → Bool
+waitingPlaced x = onlyIf (not (sends (x .sides))) (eqb (x .waiting) 0)
+
+-- finish asked only there
+abbrev pub finishPlaced : Session → Bool
+finishPlaced x = onlyIf (x .finish) (sends (x .sides))
+
+-- no opening at a server, and all numbers idle before the headers
 abbrev pub placed : Role → Bool → Sides → Bool
 placed r up sides.Idle = true
 placed r up (sides.Opening b) = isClient r && up
 placed r up (sides.Live ours theirs) = up
 
--- finite rations in range, waiting at most a slot and 0 unless our side is opening or open, finish asked only there
+-- finite rations in range, and the items above
 unfoldable pub sessionFormed : Role → Bool → Session → Bool
 sessionFormed r up x =
-    inRange (x .outbound) && inRange (x .inbound) && leb (x .waiting) slotSize && onlyIf (not (sends (x .sides))) (eqb (x .waiting) 0)
-    && onlyIf (x .finish) (sends (x .sides)) && placed r up (x .sides)
+    inRange (x .outbound) && inRange (x .inbound) && waitingFits x && waitingPlaced x && finishPlaced x && placed r up (x .sides)
 
 unfoldable pub allFormed : Role → Bool → List Session → Bool
 allFormed r up [] = true
@@ -76,7 +87,7 @@ wellFormed c = ltb (c .last) 128 && allFormed (roleOf (c .stage)) (exchanged (c 
 pub data Cause : Type 0 where
   shutdown-received error-received own-shutdown line-lost : Cause
 
--- Error or a lost line: a session that was sent must not be retried, an opening may be
+-- Error or a lost line: a session that was sent must not be retried, an opening may be; in a run no idle number has a running outcome
 abbrev pub unlessSent : Sides → Outcome
 unlessSent sides.Idle = outcome.MustNotRetry
 unlessSent (sides.Opening b) = outcome.MayRetry

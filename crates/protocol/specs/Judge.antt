@@ -151,7 +151,7 @@ abbrev pub matches : Ping → ℕ → Bool
 matches ping.None k = false
 matches (ping.Outstanding j) k = eqb j k
 
--- a message of the connection as a whole: 28 for a PingAck that matches no outstanding cookie
+-- a message of the connection as a whole: 28 for a PingAck that matches no outstanding cookie; the messages of a session never get here
 abbrev pub judgeWhole : Connection → Message → Plan Effect
 judgeWhole c (msg.NoOperation n) = take (unchanged c (message (msg.NoOperation n) false) [])
 judgeWhole c (msg.Shutdown n) = take (ends-by c shutdown-received (message (msg.Shutdown n) false) [])

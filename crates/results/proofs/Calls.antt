@@ -25,9 +25,9 @@ use Rattle.protocol.specs.Result.{Given, given, bytesOfAll, over, inRoom, decid
 use Rattle.session.specs.Step.{toAsked}
 use Rattle.gates.specs.declared.Gate.{Gate}
 use Rattle.gates.specs.declared.Gate.the-variants as gate
-use Rattle.gates.specs.Gate.{gateAs, toGate, followedBy, behind}
+use Rattle.gates.specs.Gate.{gateAs, toGate, behind}
 use Rattle.connection.specs.Table.{withStage, withPing}
-use Rattle.gates.proofs.Checks.{gated}
+use Rattle.gates.proofs.Checks.{followedBy, gated}
 use Rattle.outgoing.specs.Outgoing.{written}
 use Rattle.outgoing.proofs.Rooms.{fits, one-message}
 use Rattle.results.specs.Asking.{decision, afterChecks}
