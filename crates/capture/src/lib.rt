@@ -1,7 +1,7 @@
 // The reader of captures, which keeps hold of a capture's bytes and of its place in them.
+use place_read::next_at;
 use places::Next;
 use places::Step;
-use places::next_at;
 use wire::Role;
 ghost use mathlib.Core.Path.{_≡_};
 ghost use Rattle.places.specs.Place.{stepAt, nextAs, stepAs};

@@ -56,10 +56,10 @@ use Rattle.places.proofs.Next as N
 use Rattle.places.proofs.Next.Laws as N′
 use Rattle.places.proofs.Step as S
 use Rattle.places.proofs.Step.Laws as S′
-use Rattle.places.proofs.next_at as next-at
-use Rattle.places.proofs.next_at.Symbol as next-at-def
-use Rattle.places.proofs.next_at.Symbol.{name as #next-at}
-use Rattle.places.proofs.next_at.Met as next-at-thm
+use Rattle.place_read.proofs.next_at as next-at
+use Rattle.place_read.proofs.next_at.Symbol as next-at-def
+use Rattle.place_read.proofs.next_at.Symbol.{name as #next-at}
+use Rattle.place_read.proofs.next_at.Met as next-at-thm
 use Rattle.capture.proofs.Reader.next.Key.{name as #next}
 use Rattle.capture.proofs.Reader.next as next
 use Rattle.capture.proofs.Reader.next.Statement as stated
@@ -231,4 +231,4 @@ next-spec 𝓤 H 𝓜 𝓖 𝓡 =
     entered 𝓤 H (tripleOf 𝓤 H (𝓖 .A) next.signature (next.spec 𝓤 H (𝓖 .A) (𝓜 .mem) (𝓡 .run)))
     (tables 𝓤 H 𝓜 𝓡 code.env .C) (tables 𝓤 H 𝓜 𝓡 code.env .Λ) #next code.function (code.unfolded 𝓤 H 𝓜 𝓡)
     (next-meets 𝓤 H (𝓖 .A) (givenOf 𝓤 H 𝓜 𝓖) (𝓜 .mem) (𝓡 .run) (tablesOf 𝓤 H 𝓜 (tables 𝓤 H 𝓜 𝓡 code.env))
-    (cited 𝓤 H (NextAt 𝓤 H (𝓖 .A) (𝓜 .mem) (𝓡 .run)) 𝓜 𝓡 code.env #next-at next-at-def.routine code.calls-places·next-at (next-at-thm.met 𝓤 H 𝓜 𝓖 𝓡)))
+    (cited 𝓤 H (NextAt 𝓤 H (𝓖 .A) (𝓜 .mem) (𝓡 .run)) 𝓜 𝓡 code.env #next-at next-at-def.routine code.calls-place-read·next-at (next-at-thm.met 𝓤 H 𝓜 𝓖 𝓡)))
