@@ -12,8 +12,12 @@ use wire_items::shift_of;
 use wire_senders::flags_allowed;
 use wire_senders::may_send;
 ghost use mathlib.Core.Path.{_≡_};
-ghost use Prim.Native.Nat.{_≤_, _<_};
-ghost use Rattle.wire.specs.Message.{weight as Message·weight, firstByte, shiftOf, writable, writeMessage};
+ghost use mathlib.Core.List.{_++_};
+ghost use Prim.Native.Nat.{_+_, _≤_, _<_};
+ghost use lib.Dec.{leb};
+ghost use lib.ListN.{length, drop};
+ghost use Rattle.laws.specs.Pick.{pick};
+ghost use Rattle.wire.specs.Message.{weight as Message·weight, firstByte, header, shiftOf, writable, writeMessage};
 ghost use Rattle.wire_header.specs.Answer.{writtenAs};
 
 // The weight of a flag's bit, or 0.
@@ -52,6 +56,20 @@ fn first_byte(m: Message) -> u8
     }
 }
 
+// The four header bytes of a message.
+fn header_of(m: Message) -> [u8; 4]
+    requires { ⌜ shiftOf m < 8 ⌝ }
+    ensures { λ r. ⌜ r ≡ header m ⌝ }
+{
+    let n = number_of(m);
+    [
+        first_byte(m),
+        second_byte(m),
+        (n / 256) as u8,
+        (n % 256) as u8,
+    ]
+}
+
 // Whether the reader gives the message back, with so many bytes after its header.
 fn may_write(from: Role, m: Message, len: usize) -> bool
     ensures { λ r. ⌜ r ≡ writable from m len ⌝ }
@@ -64,23 +82,26 @@ fn may_write(from: Role, m: Message, len: usize) -> bool
     shift & session & sender & flags & body
 }
 
+// Writes a header and the bytes that follow it, where the room is large enough; whether it is.
+fn put_in(header: [u8; 4], body: &[u8], room: &mut [u8]) -> bool
+    ensures { λ r. ⌜ (r ≡ leb (4 + length (now (body .entry))) (length (now (room .entry)))) × (now (room .exit) ≡ pick r (header ++ now (body .entry) ++ drop (4 + length (now (body .entry))) (now (room .entry))) (now (room .entry))) ⌝ }
+{
+    let need = 4 + body.len();
+    if need <= room.len() {
+        copy_in(&header, room, 0);
+        copy_in(body, room, 4);
+        return true;
+    }
+    false
+}
+
 // Writes a message of a sender's and the bytes that follow it.
 pub fn write_message(from: Role, m: Message, body: &[u8], room: &mut [u8]) -> Written
     ensures { λ r. ⌜ (writtenAs r, now (room .exit)) ≡ writeMessage from m (now (body .entry)) (now (room .entry)) ⌝ }
 {
     if may_write(from, m, body.len()) {
-        let need = 4 + body.len();
-        if need <= room.len() {
-            let n = number_of(m);
-            let header = [
-                first_byte(m),
-                second_byte(m),
-                (n / 256) as u8,
-                (n % 256) as u8,
-            ];
-            copy_in(&header, room, 0);
-            copy_in(body, room, 4);
-            return Written::Wrote(need);
+        if put_in(header_of(m), body, room) {
+            return Written::Wrote(4 + body.len());
         }
         return Written::Refused(Refusal::WrongRoom);
     }
