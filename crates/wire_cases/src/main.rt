@@ -1,14 +1,15 @@
-// Puts byte strings through the reader, messages through the writer and numbers through the ration, a line each.
+// Puts byte strings through the reader and messages through the writer, a line each.
 //
-// The expected output, the file stdout, is made by hand from the published tables: each byte string is looked up there,
-// row by row, and none of its lines is copied from a run.
-mod rations;
+// The byte strings stand on standard input, the file stdin, which says how its lines are read. The expected output, the file
+// stdout, is made by hand from the published tables: each byte string is looked up there, row by row, and none of its lines
+// is copied from a run.
 mod reads;
 mod show;
 mod writes;
 
 fn main() {
-    reads::all();
+    let mut input = [0u8; 16384];
+    let n = io::read_full(libc::STDIN_FILENO, &mut input);
+    reads::all(text::first(&input, n));
     writes::all();
-    rations::all();
 }

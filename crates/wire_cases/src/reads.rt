@@ -1,5 +1,12 @@
-// Byte strings through the reader.
+// Byte strings through the reader: a table of them, line by line.
 use crate::show;
+use bytes::scan::find;
+use decimal::Size;
+use script_words::decode;
+use script_words::head;
+use script_words::is;
+use script_words::tail;
+use text::first;
 use wire::Message;
 use wire::Role;
 use wire_header::ReadHeader;
@@ -20,34 +27,36 @@ fn answer(answer: Read) {
     }
 }
 
-fn read(from: Role, input: &[u8]) {
-    show::text(b"read ");
-    show::role(from);
-    show::bytes(input);
-    answer(wire_read::read_message(from, input));
-    show::end();
-}
-
-// The four bytes of a header, with none behind them.
-fn bare(from: Role, a: u8, b: u8, c: u8, d: u8) {
-    read(from, &[a, b, c, d]);
-}
-
-// Puts the header of a Data message for session 5 at the start of a room.
-fn put_header(room: &mut [u8], high: u8, low: u8) {
-    if 4 <= room.len() {
-        room[0] = 0x80;
-        room[1] = 0x05;
-        room[2] = high;
-        room[3] = low;
+fn role_of(name: &[u8]) -> Role {
+    if is(name, b"client") {
+        Role::Client
+    } else {
+        Role::Server
     }
 }
 
-// The first n bytes of a client's Data message whose length is FFFF, 8000 or 0001 hex.
-fn read_data(high: u8, low: u8, n: usize) {
-    let mut input = [0u8; 65600];
-    put_header(&mut input, high, low);
-    read(Role::Client, text::first(&input, n));
+// The number behind a parenthesis, or else n.
+fn count(s: &[u8], n: usize) -> usize {
+    if 0 < s.len() {
+        if let Size::Is(k) = decimal::size_of(head(&s[1..]), 65600) {
+            return k;
+        }
+    }
+    n
+}
+
+// Puts bytes at the start of a room, and gives the number of all that are meant.
+fn put_bytes(digits: &[u8], room: &mut [u8]) -> usize {
+    let k = find(digits, 0, digits.len(), b'(');
+    let n = decode(first(digits, k), room);
+    count(&digits[k..], n)
+}
+
+// What the sender's name and the bytes of a message are read as.
+fn message(line: &[u8]) {
+    let mut bytes = [0u8; 65600];
+    let n = put_bytes(tail(line), &mut bytes);
+    answer(wire_read::read_message(role_of(head(line)), first(&bytes, n)));
 }
 
 fn header_answer(answer: ReadHeader) {
@@ -58,114 +67,31 @@ fn header_answer(answer: ReadHeader) {
     }
 }
 
-fn header(input: &[u8]) {
-    show::part(b"header ", input);
-    header_answer(wire_header::read_connection_header(input));
+fn header(digits: &[u8]) {
+    let mut bytes = [0u8; 16];
+    let n = decode(digits, &mut bytes);
+    header_answer(wire_header::read_connection_header(first(&bytes, n)));
+}
+
+// A line of the table, with what its bytes are read as behind it.
+fn line(line: &[u8]) {
+    if script_words::is_skipped(line) {
+        return;
+    }
+    show::text(line);
+    if is(head(line), b"header") {
+        header(tail(line));
+    } else {
+        message(tail(line));
+    }
     show::end();
 }
 
-// A header that begins with the protocol's name.
-fn jmux(version: u8, high: u8, low: u8, last: u8) {
-    header(&[b'J', b'm', b'u', b'x', version, high, low, last]);
-}
-
-// Each type of message that a client may send.
-fn client() {
-    read(Role::Client, b"\x00\x00\x00\x02hi");
-    bare(Role::Client, 0x04, 0x00, 0x12, 0x34);
-    bare(Role::Client, 0x06, 0x00, 0xff, 0xff);
-    read(Role::Client, b"\x08\x00\x00\x03bad");
-    bare(Role::Client, 0x10, 0x05, 0x01, 0x00);
-    bare(Role::Client, 0x1e, 0x7f, 0xff, 0xff);
-    bare(Role::Client, 0x20, 0x07, 0x00, 0x00);
-    bare(Role::Client, 0x40, 0x07, 0x00, 0x00);
-    read(Role::Client, b"\x80\x05\x00\x01x");
-    read(Role::Client, b"\x90\x05\x00\x03abc");
-    bare(Role::Client, 0x94, 0x05, 0x00, 0x00);
-}
-
-// Each type of message that a server may send.
-fn server() {
-    bare(Role::Server, 0x00, 0x00, 0x00, 0x00);
-    read(Role::Server, b"\x02\x00\x00\x03bye");
-    bare(Role::Server, 0x04, 0x00, 0x00, 0x00);
-    bare(Role::Server, 0x06, 0x00, 0x12, 0x34);
-    bare(Role::Server, 0x08, 0x00, 0x00, 0x00);
-    bare(Role::Server, 0x18, 0x00, 0x00, 0x01);
-    bare(Role::Server, 0x22, 0x07, 0x00, 0x00);
-    read(Role::Server, b"\x20\x07\x00\x02no");
-    bare(Role::Server, 0x30, 0x07, 0x00, 0x00);
-    read(Role::Server, b"\x8e\x7f\x00\x01z");
-}
-
-// First bytes of no type, and reserved bits that are set.
-fn violations() {
-    bare(Role::Client, 0x01, 0x00, 0x00, 0x00);
-    bare(Role::Client, 0x0a, 0x00, 0x00, 0x00);
-    bare(Role::Server, 0x24, 0x07, 0x00, 0x00);
-    bare(Role::Server, 0x32, 0x07, 0x00, 0x00);
-    bare(Role::Client, 0x91, 0x05, 0x00, 0x00);
-    bare(Role::Client, 0xa0, 0x05, 0x00, 0x00);
-    bare(Role::Client, 0xff, 0xff, 0xff, 0xff);
-    bare(Role::Client, 0x04, 0x80, 0x00, 0x00);
-    bare(Role::Client, 0x00, 0x01, 0x00, 0x00);
-    bare(Role::Client, 0x90, 0x85, 0x00, 0x00);
-    bare(Role::Server, 0x30, 0x07, 0x00, 0x01);
-    bare(Role::Client, 0x40, 0x07, 0x01, 0x00);
-}
-
-// Messages and flags of the other sender; the sender is judged before the flags, reserved bits before both.
-fn senders() {
-    bare(Role::Client, 0x02, 0x00, 0x00, 0x00);
-    bare(Role::Client, 0x30, 0x07, 0x00, 0x00);
-    bare(Role::Server, 0x40, 0x07, 0x00, 0x00);
-    bare(Role::Client, 0x22, 0x07, 0x00, 0x00);
-    bare(Role::Server, 0x90, 0x05, 0x00, 0x00);
-    bare(Role::Client, 0x8c, 0x05, 0x00, 0x00);
-    bare(Role::Client, 0x86, 0x05, 0x00, 0x00);
-    bare(Role::Server, 0x88, 0x05, 0x00, 0x00);
-    bare(Role::Server, 0x82, 0x05, 0x00, 0x00);
-    bare(Role::Client, 0x30, 0x87, 0x00, 0x00);
-    bare(Role::Server, 0x90, 0x85, 0x00, 0x00);
-}
-
-// Messages that are not all there; what the header says of a violation comes first.
-fn cut() {
-    read(Role::Client, b"");
-    read(Role::Client, b"\x01\x00\x00");
-    read(Role::Client, b"\x90\x05\x00\x03ab");
-    bare(Role::Client, 0x90, 0x05, 0x00, 0x03);
-    bare(Role::Server, 0x90, 0x05, 0x00, 0x03);
-    read(Role::Client, b"\x04\x00\x12\x34\x06");
-}
-
-// Lengths of 1, 8000 and FFFF hex, whole and cut by a byte.
-fn long() {
-    read_data(0x00, 0x01, 5);
-    read_data(0x80, 0x00, 32772);
-    read_data(0x80, 0x00, 32771);
-    read_data(0xff, 0xff, 65539);
-    read_data(0xff, 0xff, 65538);
-    read_data(0xff, 0xff, 65600);
-}
-
-fn connection() {
-    jmux(0x01, 0x00, 0x04, 0x00);
-    jmux(0x01, 0x00, 0x00, 0x00);
-    header(b"Jmux\x01\xff\xff\x00\x90");
-    jmux(0x02, 0x00, 0x04, 0x00);
-    jmux(0x01, 0x00, 0x04, 0x01);
-    header(b"jmux\x01\x00\x04\x00");
-    header(b"Jmux\x01\x00\x04");
-    header(b"junk");
-}
-
-pub(crate) fn all() {
-    client();
-    server();
-    violations();
-    senders();
-    cut();
-    long();
-    connection();
+pub(crate) fn all(table: &[u8]) {
+    let mut at = 0;
+    while at < table.len() {
+        let end = find(table, at, table.len(), b'\n');
+        line(&table[at..end]);
+        at = end + 1;
+    }
 }

@@ -1,4 +1,5 @@
 // A message, a role and bytes as text on standard output.
+use libc::STDOUT_FILENO;
 use message_text::with_message;
 use text::Line;
 use text::first;
@@ -6,17 +7,13 @@ use wire::Message;
 use wire::Role;
 
 pub(crate) fn text(words: &[u8]) {
-    io::write_all(1, words);
-}
-
-pub(crate) fn number(n: u64) {
-    io::print_decimal(1, n);
+    io::write_all(STDOUT_FILENO, words);
 }
 
 // A name and its value.
 pub(crate) fn item(name: &[u8], value: u64) {
     text(name);
-    number(value);
+    io::print_decimal(STDOUT_FILENO, value);
 }
 
 pub(crate) fn refused(n: u64) {
@@ -35,38 +32,12 @@ pub(crate) fn role(from: Role) {
     }
 }
 
-// The first four bytes and the count.
-fn start(s: &[u8]) {
-    digits(first(s, 4));
-    item(b"..(", s.len() as u64);
-    text(b" bytes)");
-}
-
-// Each byte as two hexadecimal digits; of more than 16 bytes the first four and the count.
-pub(crate) fn bytes(s: &[u8]) {
-    if 16 < s.len() {
-        start(s);
-    } else {
-        digits(s);
-    }
-}
-
-// A name and bytes.
+// A name, and at most 16 bytes as two hexadecimal digits each.
 pub(crate) fn part(name: &[u8], s: &[u8]) {
+    let mut digits = [0u8; 32];
+    let n = script_words::encode(s, &mut digits);
     text(name);
-    bytes(s);
-}
-
-fn byte(b: u8) {
-    io::print_hex(1, b as u64, 2);
-}
-
-fn digits(s: &[u8]) {
-    let mut i = 0;
-    while i < s.len() {
-        byte(s[i]);
-        i += 1;
-    }
+    text(first(&digits, 2 * n));
 }
 
 pub(crate) fn message(m: Message) {

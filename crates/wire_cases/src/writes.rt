@@ -125,23 +125,21 @@ fn rooms() {
     write_short(Role::Client, plain(128, 3), b"abc");
 }
 
-fn header_to(room: &mut [u8], n: u16) {
+fn header_to(room: &mut [u8], name: &[u8], n: u16) {
     let w = wire_header::write_connection_header(n, room);
-    show::number(n as u64);
+    show::item(name, n as u64);
     result(w, room);
     show::end();
 }
 
 fn header(n: u16) {
     let mut room = [0xEEu8; 10];
-    show::text(b"write header ");
-    header_to(&mut room, n);
+    header_to(&mut room, b"write header ", n);
 }
 
 fn header_short(n: u16) {
     let mut room = [0xEEu8; 7];
-    show::text(b"write short header ");
-    header_to(&mut room, n);
+    header_to(&mut room, b"write short header ", n);
 }
 
 fn connection() {
