@@ -1,1 +1,1 @@
-// No code: runs that the checker computes, which show that no claim over logs is empty.
+// No code: runs that the checker computes, in which what the claims over logs speak of happens.
