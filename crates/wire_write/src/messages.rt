@@ -82,12 +82,14 @@ fn may_write(from: Role, m: Message, len: usize) -> bool
     shift & session & sender & flags & body
 }
 
-// Writes a header and the bytes that follow it, where the room is large enough; whether it is.
-fn put_in(header: [u8; 4], body: &[u8], room: &mut [u8]) -> bool
-    ensures { λ r. ⌜ (r ≡ leb (4 + length (now (body .entry))) (length (now (room .entry)))) × (now (room .exit) ≡ pick r (header ++ now (body .entry) ++ drop (4 + length (now (body .entry))) (now (room .entry))) (now (room .entry))) ⌝ }
+// Writes the header of a message and the bytes that follow it, where the room is large enough; whether it is.
+fn put_in(m: Message, body: &[u8], room: &mut [u8]) -> bool
+    requires { ⌜ shiftOf m < 8 ⌝ }
+    ensures { λ r. ⌜ (r ≡ leb (4 + length (now (body .entry))) (length (now (room .entry)))) × (now (room .exit) ≡ pick r (header m ++ now (body .entry) ++ drop (4 + length (now (body .entry))) (now (room .entry))) (now (room .entry))) ⌝ }
 {
     let need = 4 + body.len();
     if need <= room.len() {
+        let header = header_of(m);
         copy_in(&header, room, 0);
         copy_in(body, room, 4);
         return true;
@@ -100,7 +102,7 @@ pub fn write_message(from: Role, m: Message, body: &[u8], room: &mut [u8]) -> Wr
     ensures { λ r. ⌜ (writtenAs r, now (room .exit)) ≡ writeMessage from m (now (body .entry)) (now (room .entry)) ⌝ }
 {
     if may_write(from, m, body.len()) {
-        if put_in(header_of(m), body, room) {
+        if put_in(m, body, room) {
             return Written::Wrote(4 + body.len());
         }
         return Written::Refused(Refusal::WrongRoom);
