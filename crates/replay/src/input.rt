@@ -3,21 +3,17 @@ use libc::STDIN_FILENO;
 ghost use Prim.Native.Nat.{_+_, _≤_};
 ghost use lib.ListN.{length};
 
-// The part of the buffer that is not used yet, the number of lines begun, whether that part starts inside a line whose
-// start is gone, whether the input has ended, and whether there is more to do.
+// The part of the buffer that is not used yet, the line in front of it, the number of lines begun, whether that part starts
+// inside a line whose start is gone, whether the input has ended, and whether there is more to do.
 pub(crate) struct Place {
     pub from: usize,
     pub to: usize,
+    pub start: usize,
+    pub end: usize,
     pub line: u64,
     pub inside: bool,
     pub ended: bool,
     pub going: bool,
-}
-
-// What comes next: a line, with the place behind it, or a read of more.
-pub(crate) enum Next {
-    Line(Place),
-    Read,
 }
 
 impl Place {
@@ -25,6 +21,8 @@ impl Place {
         Place {
             from: 0,
             to: 0,
+            start: 0,
+            end: 0,
             line: 0,
             inside: false,
             ended: false,
@@ -32,71 +30,50 @@ impl Place {
         }
     }
 
-    // The place with the line that starts here counted.
-    fn counted(mut self) -> Place {
+    // The place with the line from here to an index, counted; it is none where its start is gone.
+    fn with_line(mut self, end: usize) -> Place {
+        self.end = end;
         if self.inside {
+            self.start = end;
             return self;
         }
+        self.start = self.from;
         let line = std::num::wrapping_add_u64(self.line, 1);
         self.line = line;
         self
     }
 
-    // The place behind a line that ends at an index of the buffer.
+    // The place behind the line that ends at an index: a line break, the end of a full buffer or that of the input.
     fn behind(self, end: usize) -> Place {
-        let mut next = self.counted();
-        next.inside = false;
+        let mut next = self.with_line(end);
         if end < next.to {
             next.from = end + 1;
+            next.inside = false;
+            return next;
         }
-        next
-    }
-
-    // The place behind the start of a line that fills the buffer.
-    fn cut(self) -> Place {
-        let mut next = self.counted();
         next.from = 0;
         next.to = 0;
         next.inside = true;
+        next.going = !next.ended;
         next
     }
 
-    // The place behind the last line.
-    fn last(self) -> Place {
-        self.counted().stopped()
-    }
-
+    // The place with no line in front of it and nothing more to do.
     pub(crate) fn stopped(mut self) -> Place {
+        self.start = 0;
+        self.end = 0;
         self.going = false;
         self
     }
 
-    // Whether the part that is not used yet fills a buffer of a size.
-    fn is_full(self, size: usize) -> bool {
-        if self.from == 0 {
-            self.to == size
-        } else {
-            false
-        }
-    }
-
-    // What comes next where the line that starts here ends at an index of a buffer of a size.
-    pub(crate) fn next(self, end: usize, size: usize) -> Next {
-        if end < self.to {
-            return Next::Line(self.behind(end));
-        }
-        if self.is_full(size) {
-            return Next::Line(self.cut());
-        }
-        if self.ended {
-            return Next::Line(self.last());
-        }
-        Next::Read
+    // Whether a line of a buffer of a size ends at an index, and not just what is read of it.
+    fn is_whole(self, end: usize, size: usize) -> bool {
+        (end < self.to) | self.ended | ((self.from == 0) & (self.to == size))
     }
 }
 
 // Where the line that starts at a place ends, or the end of what is read.
-pub(crate) fn line_end(input: &[u8], place: Place) -> usize {
+fn line_end(input: &[u8], place: Place) -> usize {
     let from = place.from;
     let to = place.to;
     if from <= to {
@@ -117,10 +94,9 @@ pub(crate) fn part(s: &[u8], from: usize, to: usize) -> &[u8] {
     &s[..0]
 }
 
-// The line that starts at a place and ends at an index, or none where its start is gone.
-pub(crate) fn line(input: &[u8], place: Place, end: usize) -> &[u8] {
-    let from = if place.inside { end } else { place.from };
-    part(input, from, end)
+// The line in front of a place.
+pub(crate) fn line(input: &[u8], place: Place) -> &[u8] {
+    part(input, place.start, place.end)
 }
 
 // Moves n bytes from an index to the start.
@@ -157,12 +133,14 @@ fn after_read(place: Place, input: &mut [u8], n: usize) -> Place
     let mut next = place;
     next.from = 0;
     next.to = n + got;
+    next.start = 0;
+    next.end = 0;
     next.ended = got == 0;
     next
 }
 
 // Moves what is not used yet to the start of the buffer, and reads more behind it.
-pub(crate) fn read_more(place: Place, input: &mut [u8]) -> Place {
+fn read_more(place: Place, input: &mut [u8]) -> Place {
     let from = place.from;
     let to = place.to;
     if from <= to {
@@ -172,4 +150,13 @@ pub(crate) fn read_more(place: Place, input: &mut [u8]) -> Place {
         }
     }
     place.stopped()
+}
+
+// The place behind one line more, or behind none after a read of more.
+pub(crate) fn next(place: Place, input: &mut [u8]) -> Place {
+    let end = line_end(input, place);
+    if place.is_whole(end, input.len()) {
+        return place.behind(end);
+    }
+    read_more(place, input)
 }

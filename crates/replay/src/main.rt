@@ -6,66 +6,20 @@ mod input;
 mod play;
 mod show;
 
-use input::Next;
-use input::Place;
 use play::Play;
 
-// What is played, and how far the script is read.
-struct Run {
-    play: Play,
-    place: Place,
-}
-
-// A line that is none ends the run.
-fn after(play: Play, next: Place) -> Run {
-    if play.wrong {
-        show::script_error(next.line);
-        let place = next.stopped();
-        return Run { play, place };
-    }
-    Run { play, place: next }
-}
-
-// Plays a line, and goes on behind it.
-fn take_line(play: Play, next: Place, line: &[u8], queue: &mut [u8], room: &mut [u8]) -> Run {
-    after(play::line(play, line, queue, room), next)
-}
-
-fn read_more(play: Play, here: Place, input: &mut [u8]) -> Run {
-    let place = input::read_more(here, input);
-    Run { play, place }
-}
-
 // One line of the script, or one read of more of it.
-fn step(run: Run, input: &mut [u8], queue: &mut [u8], room: &mut [u8]) -> Run {
-    let here = run.place;
-    let play = run.play;
-    let end = input::line_end(input, here);
-    let next = here.next(end, input.len());
-    match next {
-        Next::Line(next) => take_line(play, next, input::line(input, here, end), queue, room),
-        Next::Read => read_more(play, here, input),
-    }
-}
-
-// Before the first line.
-fn start() -> Run {
-    let play = Play::new();
-    let place = Place::new();
-    Run { play, place }
-}
-
-fn goes_on(run: Run) -> bool {
-    let place = run.place;
-    place.going
+fn step(play: Play, input: &mut [u8], queue: &mut [u8], room: &mut [u8]) -> Play {
+    let place = input::next(play.place, input);
+    play::line(play.at(place), input::line(input, place), queue, room)
 }
 
 // The loop counts its turns down from a number that no run uses up, since nothing says that the input ends.
 fn run_all(input: &mut [u8], queue: &mut [u8], room: &mut [u8]) {
-    let mut run = start();
+    let mut play = Play::new();
     let mut turns = u64::MAX;
-    while turns > 0 && goes_on(run) {
-        run = step(run, input, queue, room);
+    while turns > 0 && play.goes_on() {
+        play = step(play, input, queue, room);
         turns -= 1;
     }
 }

@@ -1,4 +1,5 @@
 // One line of a script, played on a connection.
+use crate::input::Place;
 use crate::show;
 use script::Beginning;
 use script::Call;
@@ -12,12 +13,12 @@ use wire::Role;
 // The byte that stands in the room before each call.
 const MARK: u8 = 0xee;
 
-// The connection, the length of its queue, whether the script has made it, and whether a line was none.
+// The connection, the length of its queue, whether the script has made it, and how far the script is read.
 pub(crate) struct Play {
     pub connection: Connection,
     pub queue: usize,
     pub made: bool,
-    pub wrong: bool,
+    pub place: Place,
 }
 
 impl Play {
@@ -30,25 +31,41 @@ impl Play {
             }),
             queue: 0,
             made: false,
-            wrong: false,
+            place: Place::new(),
         }
     }
 
-    fn wronged(mut self) -> Play {
-        self.wrong = true;
+    // With a new connection, and a queue of a length.
+    fn begun(mut self, setup: Setup, queue: usize) -> Play {
+        let connection = Connection::new(setup);
+        self.connection = connection;
+        self.queue = queue;
+        self.made = true;
         self
+    }
+
+    pub(crate) fn at(mut self, place: Place) -> Play {
+        self.place = place;
+        self
+    }
+
+    pub(crate) fn goes_on(self) -> bool {
+        let place = self.place;
+        place.going
+    }
+
+    // A line that is none ends the run.
+    fn wronged(self) -> Play {
+        let place = self.place;
+        show::script_error(place.line);
+        self.at(place.stopped())
     }
 }
 
 fn begin(play: Play, line: &[u8]) -> Play {
     let beginning = script::begin(line);
     match beginning {
-        Beginning::Made(role, header, queue) => Play {
-            connection: Connection::new(Setup { role, header }),
-            queue,
-            made: true,
-            wrong: false,
-        },
+        Beginning::Made(role, header, queue) => play.begun(Setup { role, header }, queue),
         Beginning::Wrong => play.wronged(),
     }
 }
@@ -110,18 +127,15 @@ fn tell(line: &[u8], called: Called, room: &[u8]) {
     show::called(line, called, room, spoiled);
 }
 
-// What a call in the room that it is lent makes of the connection.
-fn in_room(
-    c: Connection,
-    asked: Call,
-    line: &[u8],
-    queue: &mut [u8],
-    room: &mut [u8],
-) -> Connection {
+// The call in the room that it is lent.
+fn in_room(mut play: Play, asked: Call, line: &[u8], queue: &mut [u8], room: &mut [u8]) -> Play {
     marks::fill(room, MARK);
+    let c = play.connection;
     let called = call(c, asked, line, queue, room);
     tell(line, called, room);
-    called.connection
+    let connection = called.connection;
+    play.connection = connection;
+    play
 }
 
 // The call with the queue at its length and the first n bytes of the room lent.
@@ -134,35 +148,29 @@ fn with_room(
     n: usize,
 ) -> Play {
     let k = play.queue;
-    let c = play.connection;
     if k <= queue.len() {
         if n <= room.len() {
-            let connection = in_room(c, asked, line, &mut queue[..k], &mut room[..n]);
-            return Play {
-                connection,
-                queue: k,
-                made: true,
-                wrong: false,
-            };
+            return in_room(play, asked, line, &mut queue[..k], &mut room[..n]);
         }
     }
     play.wronged()
+}
+
+// Shows what stands: the connection and its sessions, or a slot of the queue.
+fn shown(play: Play, asked: Line, queue: &[u8]) -> Play {
+    match asked {
+        Line::State => show::state(play.connection),
+        Line::Queue(n) => show::slot(first(queue, play.queue), n),
+        _ => return play.wronged(),
+    }
+    play
 }
 
 fn made_line(play: Play, line: &[u8], queue: &mut [u8], room: &mut [u8]) -> Play {
     let asked = script::read(line);
     match asked {
         Line::Call(asked, n) => with_room(play, asked, line, queue, room, n),
-        Line::State => {
-            let c = play.connection;
-            show::state(c);
-            play
-        }
-        Line::Queue(n) => {
-            show::slot(first(queue, play.queue), n);
-            play
-        }
-        Line::Wrong => play.wronged(),
+        _ => shown(play, asked, queue),
     }
 }
 

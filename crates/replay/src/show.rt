@@ -1,7 +1,7 @@
 // What is written to standard output.
 use crate::input::part;
-use bytes::scan::find;
 use libc::STDOUT_FILENO;
+use script_words::head;
 use session::SLOT_SIZE;
 use state::Answer;
 use state::Called;
@@ -31,14 +31,9 @@ pub(crate) fn script_error(line: u64) {
     put(Line::new().item(b"script error at line ", line).text(b"\n"));
 }
 
-// The first word of the line that asks for a call is the call's name.
-fn name(line: &[u8]) -> &[u8] {
-    first(line, find(line, 0, line.len(), b' '))
-}
-
-// What a call answers, behind its name.
+// What a call answers, behind its name, which is the first word of the line that asks for it.
 fn answered(line: &[u8], answer: Answer, used: usize) -> Line {
-    answer_text::answered(Line::new().text(name(line)), answer, used)
+    answer_text::answered(Line::new().text(head(line)), answer, used)
 }
 
 fn end(line: Line, spoiled: bool) {

@@ -6,11 +6,11 @@ use Rattle.replay.proofs.run_all.Statement.{statement}
 use Rattle.replay.proofs.run_all.Tie as tie
 
 abbrev Inv-loop : tie.InvT-loop
-Inv-loop input₀ queue₀ room₀ run₀ turns₀ input queue room run turns =
+Inv-loop input₀ queue₀ room₀ play₀ turns₀ input queue room play turns =
     (length input ≡ length input₀) × (length queue ≡ length queue₀) × (length room ≡ length room₀)
 
 abbrev μ-loop : tie.MeasureT-loop
-μ-loop input₀ queue₀ room₀ run₀ turns₀ input queue room run turns = turns
+μ-loop input₀ queue₀ room₀ play₀ turns₀ input queue room play turns = turns
 
 loop-holds : tie.Need-loop-holds Inv-loop μ-loop
 loop-holds c = (refl, refl, refl)
