@@ -14,8 +14,6 @@ pub(crate) struct Call {
     pub(crate) cookie: u16,
 }
 
-pub(crate) const PUT: u8 = 2;
-
 const TURN: u8 = 4;
 
 const GRANT: u8 = 5;

@@ -13,7 +13,7 @@ use state::Stage;
 use wire::Role;
 
 // The numbers of the letters 1 to 9 and a to f, then those of the marks - o p l w m, then those of the capital letters.
-const NUMBERS: [u32; 40] = [
+const NUMBERS: [u32; 41] = [
     1,
     2,
     3,
@@ -54,6 +54,7 @@ const NUMBERS: [u32; 40] = [
     32767,
     32768,
     32769,
+    261,
 ];
 
 // The letter at a place, or a space past the end.
@@ -66,8 +67,8 @@ pub(crate) fn letter(s: &[u8], i: usize) -> u8 {
 
 // The number that a letter stands for, 0 where it stands for none.
 pub(crate) fn number_of(b: u8) -> u32 {
-    let i = find(b"123456789abcdef-oplwmKFGHYMXZTPQRSNIJABC", 0, b);
-    if i < 40 {
+    let i = find(b"123456789abcdef-oplwmKFGHYMXZTPQRSNIJABCD", 0, b);
+    if i < 41 {
         return NUMBERS[i];
     }
     0

@@ -60,33 +60,27 @@ pub(crate) fn role_words(role: Role) -> u8 {
     }
 }
 
-// What stands in a session but its fate, in two numbers.
-struct Code {
-    outward: u64,
-    inward: u64,
+// What a session has for what it sends, in one number.
+fn outward(x: Session) -> u64 {
+    let ration = x.outbound;
+    (ration_code(ration) << 17) | ((x.waiting as u64) << 1) | (x.finish as u64)
 }
 
-fn coded(x: Session) -> Code {
+// What stands in a session beside that, but for its fate.
+fn inward(x: Session) -> u64 {
+    let ration = x.inbound;
     let sides = x.sides;
-    let outbound = x.outbound;
-    let inbound = x.inbound;
-    Code {
-        outward: (ration_code(outbound) << 17) | ((x.waiting as u64) << 1) | (x.finish as u64),
-        inward: (ration_code(inbound) << 8) | (sides_code(sides) as u64),
-    }
+    (ration_code(ration) << 8) | (sides_code(sides) as u64)
 }
 
-// How two sessions of a number compare: 0 they are the same, 1 their fates differ, 2 or 3 something else does.
-fn difference(a: Connection, b: Connection, n: u8) -> u8 {
-    let x = session_at(a, n);
-    let y = session_at(b, n);
+// How two sessions compare: 0 they are the same, 1 their fates differ, 2 something else does.
+fn difference(x: Session, y: Session) -> u8 {
+    if (outward(x) != outward(y)) | (inward(x) != inward(y)) {
+        return 2;
+    }
     let before = x.outcome;
     let after = y.outcome;
-    let p = coded(x);
-    let q = coded(y);
-    let fates = fate_words(before) != fate_words(after);
-    let others = (p.outward != q.outward) | (p.inward != q.inward);
-    (fates as u8) | ((others as u8) << 1)
+    (fate_words(before) != fate_words(after)) as u8
 }
 
 // The differences of all sessions.
@@ -94,7 +88,7 @@ fn differences(a: Connection, b: Connection) -> u8 {
     let mut found: u8 = 0;
     let mut i: u8 = 0;
     while i < 128 {
-        found = found | difference(a, b, i);
+        found = found | difference(session_at(a, i), session_at(b, i));
         i += 1;
     }
     found

@@ -14,7 +14,6 @@ use marks::is_filled;
 use state::Answer;
 use state::Called;
 use state::Connection;
-use state::Stage;
 use text::Line;
 use text::first;
 
@@ -32,7 +31,8 @@ pub(crate) fn on_bench(connection: Connection) -> Bench {
 }
 
 fn answer(a: Answer, used: usize) {
-    let line = answered(Line::new().text(b":"), a, used);
+    say(show::COLON);
+    let line = answered(Line::new(), a, used);
     let bytes = line.bytes;
     show::text(first(&bytes, line.length));
 }
@@ -80,22 +80,27 @@ fn outcome(called: Called, bytes: &[u8], room: &[u8]) {
     written(called.wrote, room);
 }
 
-fn changed(before: Connection, after: Connection, queue_kept: bool) {
-    say(change(before, after));
-    if queue_kept {
+fn changed(before: Bench, after: Bench) {
+    let c = before.connection;
+    let d = after.connection;
+    say(change(c, d));
+    let queue = before.queue;
+    let queue_after = after.queue;
+    if check::same(&queue, &queue_after) {
         say(show::LINE_END);
     } else {
         say(show::QUEUE_CHANGED);
     }
 }
 
-pub(crate) fn role(stage: Stage) {
+pub(crate) fn role(c: Connection) {
+    let stage = c.stage;
     say(role_words(role_of(stage)));
 }
 
 // The end and the call with its numbers and bytes.
-fn question(stage: Stage, asked: Call, bytes: &[u8]) {
-    role(stage);
+fn question(c: Connection, asked: Call, bytes: &[u8]) {
+    role(c);
     say(asked.kind);
     call::items(asked);
     if 0 < bytes.len() {
@@ -106,32 +111,30 @@ fn question(stage: Stage, asked: Call, bytes: &[u8]) {
 
 // One call with 272 bytes of room, the bytes of a put or a receive beside it.
 pub(crate) fn line(b: Bench, asked: Call, bytes: &[u8]) -> Bench {
-    let before = b.connection;
-    let queue_before = b.queue;
-    let mut queue = queue_before;
+    let c = b.connection;
+    let mut queue = b.queue;
     let mut room = [0xEEu8; 272];
-    let stage = before.stage;
-    question(stage, asked, bytes);
-    let called = call::ask(before, asked, bytes, &mut queue, &mut room);
+    question(c, asked, bytes);
+    let called = call::ask(c, asked, bytes, &mut queue, &mut room);
     outcome(called, bytes, &room);
-    let after = called.connection;
-    changed(before, after, check::same(&queue, &queue_before));
-    Bench {
-        connection: after,
-        queue,
-    }
+    let connection = called.connection;
+    let after = Bench { connection, queue };
+    changed(b, after);
+    after
 }
 
 // The first bytes of slot 5 with the one before them, and its last byte with the one behind it.
-pub(crate) fn slot_5(queue: &[u8]) {
+pub(crate) fn slot_5(b: Bench) {
+    let queue = b.queue;
     say(show::SLOT_5);
-    show::part(queue, 1279, 1284);
+    show::part(&queue, 1279, 1284);
     say(show::DOTS);
-    show::part(queue, 1535, 1537);
+    show::part(&queue, 1535, 1537);
     say(show::LINE_END);
 }
 
-pub(crate) fn fate(c: Connection, n: u8) {
+pub(crate) fn fate(b: Bench, n: u8) {
+    let c = b.connection;
     let x = session_at(c, n);
     let outcome = x.outcome;
     item(show::FATE_OF, n as u64);

@@ -1,5 +1,9 @@
 // A row: each call asked of one state by itself, with a number each.
 use crate::call;
+use crate::codes::letter;
+use crate::codes::number_of;
+use crate::codes::small;
+use crate::codes::state_of;
 use crate::compare::change;
 use crate::lines::role;
 use crate::show;
@@ -8,12 +12,21 @@ use crate::show::say;
 use marks::is_filled;
 use state::Answer;
 use state::Connection;
+use wire::Role;
 
-// The session number that is asked for, and how many bytes of room and queue are lent.
-pub(crate) struct Lent {
-    pub(crate) number: u8,
-    pub(crate) room: usize,
-    pub(crate) queue: usize,
+// The session number that is asked for, and how many bytes of room and queue are lent: a letter each.
+struct Lent {
+    number: u8,
+    room: usize,
+    queue: usize,
+}
+
+fn lent_of(text: &[u8]) -> Lent {
+    Lent {
+        number: small(text, 10),
+        room: number_of(letter(text, 11)) as usize,
+        queue: number_of(letter(text, 12)) as usize,
+    }
 }
 
 // The number of a refusal, or 0 for a call that is taken.
@@ -71,12 +84,13 @@ fn attempts(c: Connection, lent: Lent) -> bool {
     left
 }
 
-pub(crate) fn row(c: Connection, label: &[u8], lent: Lent) {
-    let stage = c.stage;
-    role(stage);
-    show::text(label);
-    say(show::ROW);
-    if attempts(c, lent) {
+// A row of an end: after the code of its state the letters for what is lent, and the label.
+pub(crate) fn row(end: Role, text: &[u8]) {
+    let c = state_of(end, text);
+    role(c);
+    show::text(show::rest(text, 14));
+    say(show::COLON);
+    if attempts(c, lent_of(text)) {
         say(show::ROW_SAME);
     } else {
         say(show::ROW_SPOILED);

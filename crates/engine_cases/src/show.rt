@@ -50,7 +50,7 @@ pub(crate) const FATE_OF: u8 = 33;
 
 pub(crate) const PARTIAL: u8 = 34;
 
-pub(crate) const ROW: u8 = 35;
+pub(crate) const COLON: u8 = 35;
 
 pub(crate) const ROW_TAKEN: u8 = 36;
 

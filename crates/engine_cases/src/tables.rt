@@ -10,7 +10,6 @@ use crate::lines::fate;
 use crate::lines::line;
 use crate::lines::on_bench;
 use crate::lines::slot_5;
-use crate::rows::Lent;
 use crate::rows::row;
 use crate::show;
 use crate::show::find;
@@ -18,18 +17,9 @@ use crate::show::rest;
 use state::Connection;
 use wire::Role;
 
-// What three letters lend to a row: the session number to ask for, and how many bytes of room and of queue.
-fn lent_of(text: &[u8]) -> Lent {
-    Lent {
-        number: small(text, 10),
-        room: number_of(letter(text, 11)) as usize,
-        queue: number_of(letter(text, 12)) as usize,
-    }
-}
-
-// The first 16 bytes that hexadecimal digits name.
-fn bytes_of(s: &[u8]) -> [u8; 16] {
-    let mut bytes = [0u8; 16];
+// The first 16 bytes that hexadecimal digits name, and behind them the last of these.
+fn bytes_of(s: &[u8]) -> [u8; 261] {
+    let mut bytes = [(small(s, 30) << 4) | small(s, 31); 261];
     let mut i: usize = 0;
     while i < 16 {
         bytes[i] = (small(s, 2 * i) << 4) | small(s, 2 * i + 1);
@@ -38,15 +28,14 @@ fn bytes_of(s: &[u8]) -> [u8; 16] {
     bytes
 }
 
-// A row for a client, for a server, or for both: after the code the letters for what is lent, and the label.
+// A row for a client, for a server, or for both.
 fn put_row(text: &[u8]) {
     let end = letter(text, 0);
-    let lent = lent_of(text);
     if end != b's' {
-        row(state_of(Role::Client, text), rest(text, 14), lent);
+        row(Role::Client, text);
     }
     if end != b'c' {
-        row(state_of(Role::Server, text), rest(text, 14), lent);
+        row(Role::Server, text);
     }
 }
 
@@ -58,10 +47,23 @@ fn end_of(code: &[u8]) -> Connection {
     state_of(Role::Client, code)
 }
 
-// A call with the bytes that digits up to a space name.
+// How many bytes digits up to a space name; where these are 16, an amount above 16 counts instead.
+fn count_of(digits: &[u8], amount: u32) -> usize {
+    let named = find(digits, 0, b' ') / 2;
+    if (named == 16) & (16 < amount) {
+        return amount as usize;
+    }
+    named
+}
+
+// A call with the bytes that digits name.
 fn put_call(b: Bench, asked: Call, digits: &[u8]) -> Bench {
     let bytes = bytes_of(digits);
-    line(b, asked, text::first(&bytes, find(digits, 0, b' ') / 2))
+    line(
+        b,
+        asked,
+        text::first(&bytes, count_of(digits, asked.amount)),
+    )
 }
 
 // The label behind the digits, where there is one.
@@ -94,33 +96,12 @@ fn call_of(text: &[u8]) -> Call {
     }
 }
 
-// Puts of more than the slot holds, and of as much.
-fn put_full(b: Bench) -> Bench {
-    let too_long = [0x61u8; 257];
-    let full = [0x61u8; 256];
-    let asked = call::each(call::PUT, 5);
-    line(line(b, asked, &too_long), asked, &full)
-}
-
-// An open Data message of 256 bytes and a number more.
-fn open_long(b: Bench, more: u8) -> Bench {
-    let mut bytes = [0u8; 261];
-    bytes[0] = 0x90;
-    bytes[2] = 1;
-    bytes[3] = more;
-    line(b, call::each(call::RECEIVE, 0), &bytes)
-}
-
-// A line of a run: a new end, puts or a receipt that fill a slot, a look at a slot or a fate, or a call with its bytes.
+// A line of a run: a new end, a look at a slot or a fate, or a call with its bytes.
 fn run_line(b: Bench, text: &[u8]) -> Bench {
-    let c = b.connection;
-    let queue = b.queue;
     match letter(text, 0) {
         b'@' => return on_bench(end_of(rest(text, 4))),
-        b'!' => return put_full(b),
-        b'%' => return open_long(b, small(text, 1)),
-        b'?' => slot_5(&queue),
-        b'=' => fate(c, small(text, 1)),
+        b'?' => slot_5(b),
+        b'=' => fate(b, small(text, 1)),
         _ => return put_call(b, call_of(text), rest(text, 4)),
     }
     b
@@ -149,7 +130,7 @@ pub(crate) fn put_all(table: &[u8]) {
     let mut b = on_bench(end_of(b"cf-.000-5"));
     let mut at: usize = 0;
     let mut turns = table.len();
-    while turns > 0 && at < table.len() {
+    while turns > 0 {
         b = put(b, show::until(table, at, b'\n'));
         at = show::behind(table, at, b'\n');
         turns -= 1;

@@ -7,7 +7,7 @@ use Rattle.engine_cases.proofs.tables.bytes_of.Statement.{statement}
 use Rattle.engine_cases.proofs.tables.bytes_of.Tie as tie
 
 abbrev Inv-loop : tie.InvT-loop
-Inv-loop s bytes₀ i₀ bytes i = (i ≤ 16) × (length bytes ≡ 16)
+Inv-loop s bytes₀ i₀ bytes i = (i ≤ 16) × (length bytes ≡ 261)
 
 abbrev μ-loop : tie.MeasureT-loop
 μ-loop s bytes₀ i₀ bytes i = 16 - i
@@ -22,6 +22,6 @@ pub bytes-of-spec : {M : Type 1} → statement M
 bytes-of-spec =
     tie.close
     (tie.spec
-    Inv-loop μ-loop loop-holds (λ c. search needs) (λ c κs. search needs) (λ c. search needs) (λ c. search needs)
-    (λ c κs. search needs) (λ c. search needs) (λ c. search needs) (λ c. search needs)
+    Inv-loop μ-loop (λ c κs. search needs) (λ c κs. search needs) loop-holds (λ c. search needs) (λ c κs. search needs)
+    (λ c. search needs) (λ c. search needs) (λ c κs. search needs) (λ c. search needs) (λ c. search needs) (λ c. search needs)
     loop-again (λ c. search needs))
