@@ -2,12 +2,16 @@
 
 A name is looked up in the `use` lines of its file and among the file's own declarations. A local name that is spelled like a
 declaration counts as that one, so a declaration never rests on more than is said here."""
+import collections
 import re
 
 WORDS = re.compile(r"[\s(){}\[\],;.]+")
-HEAD = re.compile(r"(?:(?:abbrev|unfoldable|pub) )*(?:(?:record|data) (\S+)|(module) |([^\s:]+)(?: \{[^}]*\})? :)")
-INNER = re.compile(r"  (?:(?:abbrev|unfoldable|pub) )*([^\s:]+(?: [^\s:]+)*) :")
-USE = re.compile(r"^use Rattle·(\w+)(?:·\w+)?\.(specs|proofs)\.([\w/]+)(?:\.\{([^}]*)\}| as (\S+))?$", re.M)
+MARKS = r"(?:(?:abbrev|unfoldable|pub) )*"
+TYPE = re.compile(r"\s*" + MARKS + r"(?:record|data) (\S+)")
+SEEN_INSIDE = re.compile(MARKS + r"(?:record|data|module) ")
+SIGNATURE = re.compile(r"\s*" + MARKS + r"((?:[^\s:=(){}]+ )*[^\s:=(){}]+)(?: \{[^}]*\})* :")
+USE = re.compile(r"^use Rattle·(\w+)(?:·\w+)?\.(specs|proofs)\.(\w+)(?:\.\{([^}]*)\}| as (\S+))?$", re.M)
+NO_NAMES = {"let", "in", "where", "module", "record", "data"}
 
 
 def spelled(name):
@@ -15,34 +19,45 @@ def spelled(name):
     return [part for part in name.split("_") if part]
 
 
+def names_at(line):
+    """The names that a line declares."""
+    found = TYPE.match(line) or SIGNATURE.match(line)
+    return set(found.group(1).split()) - NO_NAMES if found else set()
+
+
 def blocks(text):
-    """The declarations of a file, each with its names, its first and last line and its text; a `module` is one."""
+    """The declarations at the left margin of a file, each with its lines, its text and its names as they are spelled; those
+    inside a type or a module are its names too."""
     found = []
     for number, line in enumerate(text.splitlines(), 1):
-        head = HEAD.match(line)
-        if head and not line.startswith(("--", "use ", "unfolding ")):
-            found.append({"names": {head.group(1) or head.group(3)} - {None}, "first": number, "lines": []})
+        names, margin = names_at(line), line[:1].strip() and not line.startswith(("--", "use ", "unfolding "))
+        goes_on = found and found[-1]["names"] & set(WORDS.split(line.split("=")[0]))
+        if margin and (names or SEEN_INSIDE.match(line) or not goes_on):
+            found.append({"names": set(), "open": SEEN_INSIDE.match(line), "first": number, "lines": []})
+            names = names or {WORDS.split(line)[0]} - NO_NAMES
         if found:
+            if margin or found[-1]["open"]:
+                found[-1]["names"] |= {part for name in names for part in spelled(name)}
             found[-1]["lines"].append(line.split("--")[0])
             found[-1]["last"] = number
-            inner = INNER.match(line)
-            if inner:
-                found[-1]["names"].update(inner.group(1).split())
     return found
 
 
 class Declarations:
-    def __init__(self, crate):
-        self.blocks, self.named, self.used, self.modules = {}, {}, {}, {}
-        for path in [*crate.glob("specs/*.antt"), *crate.glob("proofs/*.antt")]:
-            file, text = f"{path.parent.name}/{path.name}", path.read_text()
-            self.blocks[file] = blocks(text)
-            names = ((name, at) for at, block in enumerate(self.blocks[file]) for name in block["names"])
-            self.named[file] = {part: at for name, at in names for part in spelled(name)}
-            self.used[file], self.modules[file] = {}, {}
-            for owner, folder, module, listed, alias in USE.findall(text):
-                if owner == crate.name:
-                    self.take(file, f"{folder}/{module}.antt", listed, alias or module.split("/")[-1])
+    def __init__(self, folder, crate):
+        """Those of the crate of a name, whose files stand in a folder; fails where a `use` line names none of them."""
+        self.blocks, self.named = {}, {}
+        self.used, self.modules = collections.defaultdict(dict), collections.defaultdict(dict)
+        texts = {f"{path.parent.name}/{path.name}": path.read_text() for part in ("specs", "proofs") for path in folder.glob(f"{part}/*.antt")}
+        for file, text in texts.items():
+            self.blocks[file], self.named[file] = blocks(text), collections.defaultdict(set)
+            for at, block in enumerate(self.blocks[file]):
+                for part in block["names"]:
+                    self.named[file][part].add(at)
+        for file, text in texts.items():
+            for owner, part, module, listed, alias in USE.findall(text):
+                if owner == crate:
+                    self.take(file, f"{part}/{module}.antt", listed, alias or module)
 
     def take(self, file, source, listed, alias):
         """What a `use` line brings into a file: names, or a module under a name."""
@@ -51,6 +66,8 @@ class Declarations:
         for item in filter(None, map(str.strip, listed.split(","))):
             name, _, other = item.partition(" as ")
             for part, original in zip(spelled(other.strip() or name), spelled(name)):
+                if original not in self.named[source]:
+                    raise ValueError(f"{file}: no declaration of {name} is found in {source}")
                 self.used[file][part] = (source, original)
 
     def at(self, file, line):
@@ -65,21 +82,15 @@ class Declarations:
         """The declarations that a declaration's text names."""
         file, at = key
         text = "\n".join(self.blocks[file][at]["lines"])
-        words = WORDS.split(text)
-        for module, name in re.findall(r"([^\s(){}\[\],;.]+)\.(?=([^\s(){}\[\],;.]+))", text):
-            source = self.modules[file].get(module)
-            if name in self.named.get(source, {}):
-                yield source, self.named[source][name]
-        for word in words:
-            source, name = self.used[file].get(word, (file, word))
-            if name in self.named.get(source, {}):
-                yield source, self.named[source][name]
+        names = [(self.modules[file].get(module), name) for module, name in re.findall(r"([^\s(){}\[\],;.]+)\.(?=([^\s(){}\[\],;.]+))", text)]
+        names += [self.used[file].get(word, (file, word)) for word in WORDS.split(text)]
+        return {(source, block) for source, name in names for block in self.named.get(source, {}).get(name, ())}
 
     def reached(self, key):
         """A declaration and all that it rests on."""
         seen, left = {key}, [key]
         while left:
-            new = set(self.cited(left.pop())) - seen
+            new = self.cited(left.pop()) - seen
             seen |= new
             left += new
         return seen

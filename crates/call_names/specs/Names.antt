@@ -1,4 +1,4 @@
--- The words that a line of a script may begin with, and the call that each names.
+-- The first words of a script's lines behind its first one, and what each names.
 use Prim.Native.Nat.{ℕ}
 use Prim.Native.String.{String}
 use mathlib.Core.List.{List, [], _∷_}
@@ -32,6 +32,6 @@ abbrev pub nameAmong : List Row → List ℕ → Name
 nameAmong [] w = Unknown
 nameAmong (r ∷ rows) w = pick (same w (codes (r .word))) (r .name) (nameAmong rows w)
 
--- the call that a word names
+-- what a word names
 unfoldable pub nameOf : List ℕ → Name
 nameOf w = nameAmong names w

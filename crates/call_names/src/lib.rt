@@ -1,4 +1,4 @@
-// The names of the calls in a script.
+// What the lines of a script name: calls, and looks at the state and the queue.
 use script_words::is;
 ghost use mathlib.Core.Path.{_≡_};
 ghost use Rattle.laws.specs.Pick.{pick};
@@ -57,7 +57,7 @@ fn from_finish(w: &[u8]) -> Name
     named(w, b"finish", Name::Finish, n)
 }
 
-// The call that a word names.
+// What a word names.
 pub fn name_of(w: &[u8]) -> Name
     ensures { λ r. ⌜ r ≡ nameOf (now (w .entry)) ⌝ }
 {

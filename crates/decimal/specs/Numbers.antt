@@ -1,6 +1,6 @@
 -- Decimal numbers in a text: no sign, no leading zero, at most nine digits.
 use Prim.Native.Nat.{ℕ, _+_, _*_, _-_}
-use mathlib.Core.Bool.{Bool, true, false, _&&_}
+use mathlib.Core.Bool.{Bool, true, _&&_}
 use mathlib.Core.List.{List, [], _∷_}
 use lib.Dec.{eqb, ltb, leb}
 use lib.ListN.{length, getD}
@@ -27,7 +27,7 @@ unfoldable pub valueFrom : ℕ → List ℕ → ℕ
 valueFrom v [] = v
 valueFrom v (b ∷ s) = valueFrom (v * 10 + (b - 48)) s
 
--- no leading zero but in 0 itself
+-- a 0 in front of other bytes
 abbrev pub leadsWithZero : List ℕ → Bool
 leadsWithZero s = ltb 1 (length s) && eqb (getD s 0 0) 48
 

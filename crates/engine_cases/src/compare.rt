@@ -60,13 +60,13 @@ pub(crate) fn role_words(role: Role) -> u8 {
     }
 }
 
-// What a session has for what it sends, in one number.
+// The outbound ration, what waits and whether finish is asked, in one number.
 fn outward(x: Session) -> u64 {
     let ration = x.outbound;
     (ration_code(ration) << 17) | ((x.waiting as u64) << 1) | (x.finish as u64)
 }
 
-// What stands in a session beside that, but for its fate.
+// The inbound ration and the sides of a session, in one number.
 fn inward(x: Session) -> u64 {
     let ration = x.inbound;
     let sides = x.sides;

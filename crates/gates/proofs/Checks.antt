@@ -2,7 +2,7 @@
 use mathlib.Core.Path.{_≡_, refl}
 use mathlib.Core.Bool.{Bool, true, false}
 use Prim.Native.Nat.{ℕ}
-use Rattle.laws.specs.Result.{Result, ok, refused}
+use Rattle.laws.specs.Result.{Result}
 use Rattle.protocol.specs.Plan.{Plan, stop, check, take, settle}
 use Rattle.gates.specs.Gate.{toGate, further, behind}
 

@@ -54,8 +54,8 @@ impl Play {
         place.going
     }
 
-    // A line that is none ends the run.
-    fn wronged(self) -> Play {
+    // A line that the format does not have ends the run.
+    fn stopped_by_error(self) -> Play {
         let place = self.place;
         show::script_error(place.line);
         self.at(place.stopped())
@@ -66,7 +66,7 @@ fn begin(play: Play, line: &[u8]) -> Play {
     let beginning = script::begin(line);
     match beginning {
         Beginning::Made(role, header, queue) => play.begun(Setup { role, header }, queue),
-        Beginning::Wrong => play.wronged(),
+        Beginning::Wrong => play.stopped_by_error(),
     }
 }
 
@@ -153,7 +153,7 @@ fn with_room(
             return in_room(play, asked, line, &mut queue[..k], &mut room[..n]);
         }
     }
-    play.wronged()
+    play.stopped_by_error()
 }
 
 // Shows what stands: the connection and its sessions, or a slot of the queue.
@@ -161,7 +161,7 @@ fn shown(play: Play, asked: Line, queue: &[u8]) -> Play {
     match asked {
         Line::State => show::state(play.connection),
         Line::Queue(n) => show::slot(first(queue, play.queue), n),
-        _ => return play.wronged(),
+        _ => return play.stopped_by_error(),
     }
     play
 }

@@ -6,7 +6,7 @@ use Prim.Native.Nat.{ℕ, _≤_}
 use lib.ListN.{length}
 use lib.Seq.{set-getD}
 use borrow.Author.Tests.{ltb-false}
-use Rattle.laws.specs.Result.{Result, ok, refused}
+use Rattle.laws.specs.Result.{Result, ok}
 use Rattle.laws.proofs.Results.{refused-not-ok}
 use Rattle.refusal.specs.declared.Refusal.{Refusal}
 use Rattle.refusal.specs.Number.{refusalNumber}

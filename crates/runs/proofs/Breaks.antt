@@ -1,6 +1,6 @@
--- For each way in which a message that is read breaks the rules a run of a server that meets it, and one that is cut short, by computation.
+-- Runs of a server, by computation: one for each way in which a message that is read breaks the rules, one with a message cut short, one with a close.
 use mathlib.Core.Path.{_≡_, refl}
-use mathlib.Core.Bool.{Bool, true, false}
+use mathlib.Core.Bool.{false}
 use mathlib.Core.List.{List, [], _∷_, _++_}
 use Prim.Native.Nat.{ℕ}
 use Rattle.laws.specs.Result.{ok}
@@ -10,7 +10,7 @@ use Rattle.wire.specs.declared.Role.the-variants as role
 use Rattle.wire.specs.Message.{readMessage}
 use Rattle.protocol.specs.Message.{scope}
 use Rattle.protocol.specs.Judge.{done}
-use Rattle.history.specs.Log.{Call, put, finish, close, log}
+use Rattle.history.specs.Log.{Call, finish, close, log}
 use Rattle.history.specs.Claims.{mayCome}
 use Rattle.runs.proofs.Played.{played, server, zeros, queue, receives, turns, taken, refuses, breaks}
 

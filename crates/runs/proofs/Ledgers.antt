@@ -1,4 +1,4 @@
--- A client's run in which both rations are granted and spent, and the fate of its session; what the log adds up to, by computation.
+-- A client's run in which both rations are granted and spent, and the fates of its sessions; what the log adds up to, by computation.
 use mathlib.Core.Path.{_≡_, refl}
 use mathlib.Core.Bool.{true, false}
 use mathlib.Core.List.{List, [], _∷_, _++_}
@@ -52,7 +52,7 @@ opened = starts ∷ receives far-header ∷ open-session 5 ∷ []
 abbrev exchanged : List Call
 exchanged = opened ++ (put 5 abcd ∷ turns ∷ receives increments-5 ∷ put 5 (0x65 ∷ []) ∷ grant-5 ∷ receives answers-5 ∷ [])
 
--- and a ping is answered, the server closes the session, and the line is lost
+-- and a ping is answered, the server closes the session, 6 is opened, and the line is lost
 abbrev closed : List Call
 closed = exchanged ++ (pings ∷ receives acknowledges ∷ receives closes-5 ∷ open-session 6 ∷ lost ∷ [])
 

@@ -1,6 +1,6 @@
 -- What a line asks.
 use Prim.Native.Nat.{ℕ}
-use mathlib.Core.Bool.{Bool, true, false}
+use mathlib.Core.Bool.{true, false}
 use mathlib.Core.List.{List}
 use Rattle.laws.specs.Pick.{pick}
 use Rattle.wire.specs.declared.Role.{Role}

@@ -1,5 +1,5 @@
 -- `digits` meets its contract. The loop's invariant: the digits that are left, behind the value, are the whole's, and the value has as many digits as were passed.
-use mathlib.Core.Path.{_≡_, refl, sym, _∙_}
+use mathlib.Core.Path.{_≡_, sym, _∙_}
 use lib.ListN.{length, drop, getD}
 use Prim.Native.Nat.{_≤_, _<_, _-_}
 use native.Mathlib.Omega.{arith}
