@@ -18,9 +18,9 @@ use Rattle.state.specs.New.{fresh}
 use Rattle.protocol.specs.Connection.{at, exchanged, wellFormed}
 use Rattle.protocol.specs.Judge.{Report}
 use Rattle.protocol.specs.Result.{Given, receiveCall}
-use Rattle.ping_limit.specs.declared.Setting.{Setting}
-use Rattle.clock.specs.Clock.{newClock}
-use Rattle.ping_limit.specs.Claims.{limitsAfter}
+use Rattle.clock_limit.specs.declared.Setting.{Setting}
+use Rattle.clock_sample.specs.Clock.{newClock}
+use Rattle.clock_limit.specs.Claims.{limitsAfter}
 
 -- the ration that a row looks at: of a session, for what it receives or for what it sends
 pub data Watched : Type 0 where

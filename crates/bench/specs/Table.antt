@@ -11,9 +11,9 @@ use Rattle.wire.specs.declared.Message.{Message}
 use Rattle.wire.specs.declared.Message.the-variants.{IncrementRation, Abort, Close, Data}
 use Rattle.state.specs.declared.Setup.{Setup}
 use Rattle.protocol.specs.Judge as report
-use Rattle.ping_limit.specs.declared.Setting.{Setting}
-use Rattle.ping_limit.specs.declared.Setting.the-variants.{Measured}
-use Rattle.floats.specs.Arithmetic.{_⊘_, whole}
+use Rattle.clock_limit.specs.declared.Setting.{Setting}
+use Rattle.clock_limit.specs.declared.Setting.the-variants.{Measured}
+use Rattle.clock_numbers.specs.Arithmetic.{_⊘_, whole}
 use Rattle.bench.specs.Row.{inbound, outbound, Came, Row, header, message, message-of-either, received, limits}
 
 -- ---- what the rows of cases 4 and 5 share: a server just made, and session 5

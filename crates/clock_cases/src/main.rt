@@ -1,10 +1,10 @@
 // Runs the ping clock on case 7 and at the ends of each range, and writes a line for each answer.
-use clock::Clock;
-use clock::Outcome;
+use clock_limit::Limit;
+use clock_limit::Setting;
+use clock_limit::limit_of;
+use clock_sample::Clock;
+use clock_sample::Outcome;
 use libc::STDOUT_FILENO;
-use ping_limit::Limit;
-use ping_limit::Setting;
-use ping_limit::limit_of;
 
 fn text(bytes: &[u8]) {
     io::write_all(STDOUT_FILENO, bytes);
@@ -63,7 +63,7 @@ fn write_clock(clock: Clock) {
 
 // Passes a clock to the sampler, writes the answer and the clock afterwards, and returns that clock.
 fn sample(clock: Clock, r: u32) -> Clock {
-    let update = sampler::with_sample(clock, r);
+    let update = clock_sample::with_sample(clock, r);
     let outcome = update.outcome;
     let after = update.clock;
     write_clock(clock);

@@ -1,2 +1,3 @@
--- The definitions of a connection with one part set.
+-- The definitions of a connection with one part set, and of the causes of its end.
 pub mod Table
+pub mod Cause

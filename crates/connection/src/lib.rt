@@ -1,7 +1,9 @@
-// One end of a connection as a whole: its role, its starting rations, and its table of sessions.
+// One end of a connection as a whole: its role, its starting rations, its table of sessions, and how it ends.
+mod ending;
 mod stages;
 mod table;
 
+pub use ending::ended;
 pub use stages::exchanged;
 pub use stages::far_start;
 pub use stages::own_start;
@@ -10,3 +12,11 @@ pub use table::session_at;
 pub use table::with_ping;
 pub use table::with_session;
 pub use table::with_stage;
+
+// What ends a connection.
+pub enum Cause {
+    ShutdownReceived,
+    ErrorReceived,
+    OwnShutdown,
+    LineLost,
+}

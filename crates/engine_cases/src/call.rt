@@ -44,18 +44,18 @@ pub(crate) fn ask(
     let n = call.session;
     let kind = call.kind;
     match kind {
-        0 => connection_calls::start(c, room),
-        1 => session_calls::open_session(c, n),
-        2 => put::put(c, n, bytes, queue),
-        3 => session_calls::finish(c, n),
-        4 => turn::turn(c, queue, room),
-        5 => session_writes::grant(c, n, call.amount, room),
-        6 => session_writes::abort(c, n, call.partial, room),
-        7 => session_writes::close(c, n, room),
-        8 => connection_calls::ping(c, call.cookie, room),
-        9 => ending_calls::shutdown(c, room),
-        10 => ending_calls::lost_line(c),
-        _ => receive::receive(c, bytes, room),
+        0 => call_connection::start(c, room),
+        1 => call_session::open_session(c, n),
+        2 => call_put::put(c, n, bytes, queue),
+        3 => call_session::finish(c, n),
+        4 => call_turn::turn(c, queue, room),
+        5 => call_session::grant(c, n, call.amount, room),
+        6 => call_session::abort(c, n, call.partial, room),
+        7 => call_session::close(c, n, room),
+        8 => call_connection::ping(c, call.cookie, room),
+        9 => call_connection::shutdown(c, room),
+        10 => call_connection::lost_line(c),
+        _ => call_receive::receive(c, bytes, room),
     }
 }
 

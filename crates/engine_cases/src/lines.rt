@@ -7,15 +7,15 @@ use crate::compare::role_words;
 use crate::show;
 use crate::show::item;
 use crate::show::say;
-use answer_text::answered;
 use connection::role_of;
 use connection::session_at;
-use marks::is_filled;
+use engine_marks::is_filled;
 use state::Answer;
 use state::Called;
 use state::Connection;
-use text::Line;
-use text::first;
+use text_line::Line;
+use text_line::first;
+use text_state::answered;
 
 // One end with its queue, from call to call.
 pub(crate) struct Bench {

@@ -16,5 +16,5 @@ mod tables;
 fn main() {
     let mut input = [0u8; 16384];
     let n = io::read_full(libc::STDIN_FILENO, &mut input);
-    tables::put_all(text::first(&input, n));
+    tables::put_all(text_line::first(&input, n));
 }

@@ -9,7 +9,7 @@ use crate::lines::role;
 use crate::show;
 use crate::show::item;
 use crate::show::say;
-use marks::is_filled;
+use engine_marks::is_filled;
 use state::Answer;
 use state::Connection;
 use wire::Role;

@@ -1,7 +1,7 @@
 // Words, numbers and bytes on standard output.
 use crate::codes::letter;
 use libc::STDOUT_FILENO;
-use text::first;
+use text_line::first;
 
 // The words by their numbers: those of the calls first, in the order of their kinds.
 pub(crate) const CLIENT: u8 = 12;

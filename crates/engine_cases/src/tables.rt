@@ -62,7 +62,7 @@ fn put_call(b: Bench, asked: Call, digits: &[u8]) -> Bench {
     line(
         b,
         asked,
-        text::first(&bytes, count_of(digits, asked.amount)),
+        text_line::first(&bytes, count_of(digits, asked.amount)),
     )
 }
 

@@ -1,7 +1,7 @@
 // The loops: each goes round eight sessions that are open, with endless rations.
 use connection::with_session;
 use connection::with_stage;
-use formed::well_formed;
+use connection_check::well_formed;
 use ration::Ration;
 use state::Answer;
 use state::Called;
@@ -107,17 +107,22 @@ fn check_round(r: Round, n: u8, waiting: u16) -> Round {
 
 fn turn_round(r: Round, n: u8, queue: &mut [u8; 32768], room: &mut [u8; 260]) -> Round {
     let c = r.connection;
-    after(turn::turn(c, queue, room), r.taken, n, 16)
+    after(call_turn::turn(c, queue, room), r.taken, n, 16)
 }
 
 fn put_round(r: Round, n: u8, queue: &mut [u8; 32768]) -> Round {
     let c = r.connection;
-    after(put::put(c, n, b"0123456789abcdef", queue), r.taken, n, 0)
+    after(
+        call_put::put(c, n, b"0123456789abcdef", queue),
+        r.taken,
+        n,
+        0,
+    )
 }
 
 fn receive_round(r: Round, n: u8, room: &mut [u8; 260]) -> Round {
     let c = r.connection;
-    let called = receive::receive(c, b"\x80\x05\x00\x100123456789abcdef", room);
+    let called = call_receive::receive(c, b"\x80\x05\x00\x100123456789abcdef", room);
     after(called, r.taken, n, 0)
 }
 

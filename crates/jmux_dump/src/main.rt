@@ -3,14 +3,14 @@
 // It is run on a capture of each type of message that a client sends, and held to lines that are made by hand: each
 // message is looked up in the published tables, its place is the sum of the lengths before it, and none of the lines is
 // copied from a run.
-use capture::FIRST_PLACE;
+use capture_reader::FIRST_PLACE;
+use capture_rules::Next;
 use libc::STDERR_FILENO;
 use libc::STDIN_FILENO;
 use libc::STDOUT_FILENO;
-use message_text::with_message;
-use places::Next;
 use refusal::Refusal;
-use text::Line;
+use text_line::Line;
+use text_message::with_message;
 use wire::Message;
 use wire::Role;
 use wire_header::ReadHeader;
@@ -45,7 +45,7 @@ fn argument() -> Sender {
 fn put(line: Line) {
     let bytes = line.bytes;
     let n = line.length;
-    io::write_all(STDOUT_FILENO, text::first(&bytes, n));
+    io::write_all(STDOUT_FILENO, text_line::first(&bytes, n));
 }
 
 // A line that begins with a place.
@@ -84,7 +84,7 @@ fn put_header(capture: &[u8]) {
 
 // What stands at a place: a message, or the refusal that ends the reading.
 fn put_next(capture: &[u8], from: Role, place: usize) -> Turn {
-    let step = capture::read_at(capture, from, place);
+    let step = capture_reader::read_at(capture, from, place);
     let next = step.next;
     let more = match next {
         Next::Message(m) => put_message(place, m),
@@ -132,7 +132,7 @@ fn main() {
         io::write_all(STDERR_FILENO, b"the capture is longer than 524288 bytes\n");
         return;
     }
-    let capture = text::first(&bytes, n);
+    let capture = text_line::first(&bytes, n);
     put_length(capture);
     put_header(capture);
     put_messages(capture, from);

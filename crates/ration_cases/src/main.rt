@@ -72,7 +72,7 @@ fn granted(may: bool) {
 
 // A ration grown by an increment that is shifted.
 fn grow(r: Ration, shift: u8, increment: u16) {
-    let n = wire_amounts::effective_increment(shift, increment);
+    let n = wire_fields::effective_increment(shift, increment);
     asked(r, b" grow ", n);
     grown(r.grow(n));
     granted(r.grantable(n));

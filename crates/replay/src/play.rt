@@ -1,13 +1,13 @@
 // One line of a script, played on a connection.
 use crate::input::Place;
 use crate::show;
-use script::Beginning;
-use script::Call;
-use script::Line;
+use script_lines::Beginning;
+use script_lines::Call;
+use script_lines::Line;
 use state::Called;
 use state::Connection;
 use state::Setup;
-use text::first;
+use text_line::first;
 use wire::Role;
 
 // The byte that stands in the room before each call.
@@ -63,7 +63,7 @@ impl Play {
 }
 
 fn begin(play: Play, line: &[u8]) -> Play {
-    let beginning = script::begin(line);
+    let beginning = script_lines::begin(line);
     match beginning {
         Beginning::Made(role, header, queue) => play.begun(Setup { role, header }, queue),
         Beginning::Wrong => play.stopped_by_error(),
@@ -72,31 +72,31 @@ fn begin(play: Play, line: &[u8]) -> Play {
 
 fn put(c: Connection, n: u8, line: &[u8], queue: &mut [u8]) -> Called {
     let mut data = [0u8; 1024];
-    let k = script::payload(line, &mut data);
-    put::put(c, n, first(&data, k), queue)
+    let k = script_lines::payload(line, &mut data);
+    call_put::put(c, n, first(&data, k), queue)
 }
 
 fn receive(c: Connection, line: &[u8], room: &mut [u8]) -> Called {
     let mut data = [0u8; 66000];
-    let k = script::payload(line, &mut data);
-    receive::receive(c, first(&data, k), room)
+    let k = script_lines::payload(line, &mut data);
+    call_receive::receive(c, first(&data, k), room)
 }
 
 // The calls that use neither queue nor room: the one left is that of a lost line.
 fn silent_call(c: Connection, call: Call) -> Called {
     match call {
-        Call::Open(n) => session_calls::open_session(c, n),
-        Call::Finish(n) => session_calls::finish(c, n),
-        _ => ending_calls::lost_line(c),
+        Call::Open(n) => call_session::open_session(c, n),
+        Call::Finish(n) => call_session::finish(c, n),
+        _ => call_connection::lost_line(c),
     }
 }
 
 // The calls on a session that use no queue.
 fn session_call(c: Connection, call: Call, room: &mut [u8]) -> Called {
     match call {
-        Call::Grant(n, amount) => session_writes::grant(c, n, amount, room),
-        Call::Abort(n, partial) => session_writes::abort(c, n, partial, room),
-        Call::Close(n) => session_writes::close(c, n, room),
+        Call::Grant(n, amount) => call_session::grant(c, n, amount, room),
+        Call::Abort(n, partial) => call_session::abort(c, n, partial, room),
+        Call::Close(n) => call_session::close(c, n, room),
         _ => silent_call(c, call),
     }
 }
@@ -104,9 +104,9 @@ fn session_call(c: Connection, call: Call, room: &mut [u8]) -> Called {
 // The calls that use no queue.
 fn call_in_room(c: Connection, call: Call, room: &mut [u8]) -> Called {
     match call {
-        Call::Start => connection_calls::start(c, room),
-        Call::Ping(cookie) => connection_calls::ping(c, cookie, room),
-        Call::Shutdown => ending_calls::shutdown(c, room),
+        Call::Start => call_connection::start(c, room),
+        Call::Ping(cookie) => call_connection::ping(c, cookie, room),
+        Call::Shutdown => call_connection::shutdown(c, room),
         _ => session_call(c, call, room),
     }
 }
@@ -115,7 +115,7 @@ fn call_in_room(c: Connection, call: Call, room: &mut [u8]) -> Called {
 fn call(c: Connection, call: Call, line: &[u8], queue: &mut [u8], room: &mut [u8]) -> Called {
     match call {
         Call::Put(n) => put(c, n, line, queue),
-        Call::Turn => turn::turn(c, queue, room),
+        Call::Turn => call_turn::turn(c, queue, room),
         Call::Receive => receive(c, line, room),
         _ => call_in_room(c, call, room),
     }
@@ -123,13 +123,13 @@ fn call(c: Connection, call: Call, line: &[u8], queue: &mut [u8], room: &mut [u8
 
 // The line that tells of a call.
 fn tell(line: &[u8], called: Called, room: &[u8]) {
-    let spoiled = !marks::is_filled(room, called.wrote, MARK);
+    let spoiled = !engine_marks::is_filled(room, called.wrote, MARK);
     show::called(line, called, room, spoiled);
 }
 
 // The call in the room that it is lent.
 fn in_room(mut play: Play, asked: Call, line: &[u8], queue: &mut [u8], room: &mut [u8]) -> Play {
-    marks::fill(room, MARK);
+    engine_marks::fill(room, MARK);
     let c = play.connection;
     let called = call(c, asked, line, queue, room);
     tell(line, called, room);
@@ -167,7 +167,7 @@ fn shown(play: Play, asked: Line, queue: &[u8]) -> Play {
 }
 
 fn made_line(play: Play, line: &[u8], queue: &mut [u8], room: &mut [u8]) -> Play {
-    let asked = script::read(line);
+    let asked = script_lines::read(line);
     match asked {
         Line::Call(asked, n) => with_room(play, asked, line, queue, room, n),
         _ => shown(play, asked, queue),

@@ -7,8 +7,8 @@ use state::Answer;
 use state::Called;
 use state::Connection;
 use state::Session;
-use text::Line;
-use text::first;
+use text_line::Line;
+use text_line::first;
 
 fn words(s: &[u8]) {
     io::write_all(STDOUT_FILENO, s);
@@ -33,7 +33,7 @@ pub(crate) fn script_error(line: u64) {
 
 // What a call answers, behind its name, which is the first word of the line that asks for it.
 fn answered(line: &[u8], answer: Answer, used: usize) -> Line {
-    answer_text::answered(Line::new().text(head(line)), answer, used)
+    text_state::answered(Line::new().text(head(line)), answer, used)
 }
 
 fn end(line: Line, spoiled: bool) {
@@ -59,8 +59,8 @@ pub(crate) fn called(line: &[u8], called: Called, room: &[u8], spoiled: bool) {
 }
 
 fn session(n: u8, x: Session) {
-    if report::is_shown(x) {
-        put(report::session_line(n, x).text(b"\n"));
+    if text_state::is_shown(x) {
+        put(text_state::session_line(n, x).text(b"\n"));
     }
 }
 
@@ -76,7 +76,7 @@ fn sessions(table: [Session; 128]) {
 
 // The lines of what stands.
 pub(crate) fn state(c: Connection) {
-    put(report::connection_line(c).text(b"\n"));
+    put(text_state::connection_line(c).text(b"\n"));
     let table = c.sessions;
     sessions(table);
 }

@@ -1,3 +1,4 @@
--- The laws of words and bytes.
+-- Laws of words, digits and numbers.
+pub mod Values
 pub mod Texts
 pub mod Digits

@@ -1,3 +1,4 @@
--- The script language: words and bytes.
+-- The definitions of the words, bytes and numbers in a text.
+pub mod Numbers
 pub mod Words
 pub mod Hex

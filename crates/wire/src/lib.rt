@@ -1,8 +1,4 @@
-// The messages of the multiplexing protocol, and what holds of a message whatever reads or writes it.
-mod roles;
-
-pub use roles::is_client;
-pub use roles::is_server;
+// The messages of the multiplexing protocol and the ends that send them.
 
 // An end of the connection.
 pub enum Role {

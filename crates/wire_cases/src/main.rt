@@ -10,6 +10,6 @@ mod writes;
 fn main() {
     let mut input = [0u8; 16384];
     let n = io::read_full(libc::STDIN_FILENO, &mut input);
-    reads::all(text::first(&input, n));
+    reads::all(text_line::first(&input, n));
     writes::all();
 }

@@ -1,12 +1,12 @@
 // Byte strings through the reader: a table of them, line by line.
 use crate::show;
 use bytes::scan::find;
-use decimal::Size;
+use script_words::Size;
 use script_words::decode;
 use script_words::head;
 use script_words::is;
 use script_words::tail;
-use text::first;
+use text_line::first;
 use wire::Message;
 use wire::Role;
 use wire_header::ReadHeader;
@@ -16,7 +16,7 @@ use wire_read::Read;
 fn taken(m: Message) {
     show::text(b": ok ");
     show::message(m);
-    show::item(b" used ", 4 + (wire_amounts::body_length(m) as u64));
+    show::item(b" used ", 4 + (wire_fields::body_length(m) as u64));
 }
 
 fn answer(answer: Read) {
@@ -38,7 +38,7 @@ fn role_of(name: &[u8]) -> Role {
 // The number behind a parenthesis, or else n.
 fn count(s: &[u8], n: usize) -> usize {
     if 0 < s.len() {
-        if let Size::Is(k) = decimal::size_of(head(&s[1..]), 65600) {
+        if let Size::Is(k) = script_words::size_of(head(&s[1..]), 65600) {
             return k;
         }
     }

@@ -1,8 +1,8 @@
 // A message, a role and bytes as text on standard output.
 use libc::STDOUT_FILENO;
-use message_text::with_message;
-use text::Line;
-use text::first;
+use text_line::Line;
+use text_line::first;
+use text_message::with_message;
 use wire::Message;
 use wire::Role;
 

@@ -7,7 +7,7 @@ use wire_header::Written;
 // What was written, and whether the byte after it is still the one that was lent.
 fn wrote(n: usize, room: &[u8]) {
     if n <= room.len() {
-        show::part(b": wrote ", text::first(room, n));
+        show::part(b": wrote ", text_line::first(room, n));
         show::part(b" then ", &room[n..]);
     }
 }

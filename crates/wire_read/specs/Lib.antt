@@ -1,2 +1,3 @@
 -- The definitions of the reader's answers.
+pub mod Decoding
 pub mod Answer

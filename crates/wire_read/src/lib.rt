@@ -1,4 +1,7 @@
 // The reader of messages.
+mod decode;
+mod kinds;
+mod layouts;
 mod messages;
 
 pub use messages::parse_header;

@@ -1,15 +1,15 @@
 // What bytes say: the four header bytes of a message, and the message that stands first in an input.
 use crate::Parsed;
 use crate::Read;
+use crate::decode::Decoded;
+use crate::decode::decode;
 use refusal::Violation;
 use wire::Kind;
 use wire::Message;
 use wire::Role;
-use wire_amounts::body_length;
-use wire_decode::Decoded;
-use wire_decode::decode;
-use wire_senders::flags_allowed;
-use wire_senders::may_send;
+use wire_fields::body_length;
+use wire_fields::flags_allowed;
+use wire_fields::may_send;
 ghost use mathlib.Core.Path.{_≡_};
 ghost use mathlib.Core.List.{_∷_, []};
 ghost use Rattle.wire.specs.Message.{allowed, parseHeader, withBody, readMessage};

@@ -1,9 +1,9 @@
 -- `parse_header` meets its contract, by what the tables say and what its sender may send of it.
 use mathlib.Core.Path.{_≡_, sym, ap, _∙_}
 use Rattle.wire.specs.Message.{parseHeader}
-use Rattle.wire_decode.specs.declared.Decoded.{Decoded}
-use Rattle.wire_decode.specs.Answer.{decodedAs}
-use Rattle.wire_decode.proofs.Decoding.{permitted, parses}
+use Rattle.wire_read.specs.declared.decode.Decoded.{Decoded}
+use Rattle.wire_read.specs.Decoding.{decodedAs}
+use Rattle.wire_read.proofs.Decoding.{permitted, parses}
 use borrow.Author.Needs.{needs}
 use Rattle.wire_read.proofs.messages.parse_header.Statement.{statement}
 use Rattle.wire_read.proofs.messages.parse_header.Tie as tie

@@ -1,2 +1,0 @@
--- The definition of an answer's words.
-pub mod Answers

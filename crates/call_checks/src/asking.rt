@@ -1,0 +1,46 @@
+// What is asked of one session by a call that writes: the checks that such calls share, then what the session's step comes to.
+use crate::Gate;
+use crate::gates::to_write_session;
+use crate::results::done;
+use crate::results::refused;
+use connection::with_session;
+use connection_output::of_session;
+use connection_output::write;
+use session::Asked;
+use state::Called;
+use state::Connection;
+ghost use mathlib.Core.Path.{_≡_};
+ghost use Prim.Native.Nat.{_≤_};
+ghost use lib.ListN.{length};
+ghost use Rattle.protocol.specs.Judge.{with-session, done as Judge·done};
+ghost use Rattle.protocol.specs.Result.{calledAs, inRoom};
+ghost use Rattle.session.specs.Step.{askedAs};
+ghost use Rattle.call_checks.specs.Asking.{decision};
+ghost use Rattle.call_checks.specs.Asked.{askedIn};
+
+// A call that writes what the session sends.
+fn conclude_in(c: Connection, n: u8, asked: Asked, room: &mut [u8]) -> Called
+    requires { ⌜ 4 ≤ length (now room) ⌝ }
+    ensures { λ r. ⌜ (calledAs r, now (room .exit)) ≡ inRoom c (now (room .entry)) (decision (with-session c n (c .last) Judge·done) (askedAs asked)) ⌝ }
+{
+    match asked {
+        Asked::Taken(t) => {
+            let x = t.session;
+            let sent = t.sent;
+            let wrote = write(of_session(n, sent), room);
+            done(with_session(c, n, x), wrote)
+        }
+        Asked::Refused(refusal) => refused(c, refusal),
+    }
+}
+
+// What a call gives that asks a step of the session of a number.
+pub fn ask_in(c: Connection, n: u8, asked: Asked, room: &mut [u8]) -> Called
+    ensures { λ r. ⌜ (calledAs r, now (room .exit)) ≡ inRoom c (now (room .entry)) (askedIn c n (length (now (room .entry))) (askedAs asked)) ⌝ }
+{
+    let gate = to_write_session(c, n, room.len());
+    match gate {
+        Gate::Passed => conclude_in(c, n, asked, room),
+        Gate::Refused(refusal) => refused(c, refusal),
+    }
+}

@@ -1,2 +1,0 @@
--- The names of the calls in a script.
-pub mod Names

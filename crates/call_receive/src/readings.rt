@@ -1,0 +1,83 @@
+// What stands first in the input, as what the receive comes to: a connection header first, then messages.
+use connection::with_stage;
+use connection_judge::Judged;
+use connection_judge::Reply;
+use connection_judge::judge;
+use connection_judge::refused;
+use connection_judge::violated;
+use connection_output::Outgoing;
+use refusal::Refusal;
+use state::Answer;
+use state::Connection;
+use state::Stage;
+use wire::Role;
+use wire_header::ReadHeader;
+use wire_header::read_connection_header;
+use wire_read::Read;
+use wire_read::read_message;
+ghost use mathlib.Core.Path.{_≡_};
+ghost use Rattle.protocol.specs.Call.{otherEnd, answering as Call·answering, headerTaken, messageTaken, reading};
+ghost use Rattle.wire_header.specs.Answer.{headerReadAs};
+ghost use Rattle.wire_read.specs.Answer.{readAs};
+ghost use Rattle.connection_judge.specs.Verdict.{repliesAs, verdictAs, verdict};
+
+// A good first header makes a server write its own.
+fn answering(role: Role, own: u16) -> Reply
+    ensures { λ r. ⌜ repliesAs r ≡ Call·answering role own ⌝ }
+{
+    match role {
+        Role::Client => Reply::Only(Outgoing::Nothing),
+        Role::Server => Reply::Only(Outgoing::Header(own)),
+    }
+}
+
+// A header that is read: the headers are exchanged with it.
+fn take_header(c: Connection, role: Role, header: ReadHeader) -> Judged
+    ensures { λ r. ⌜ verdictAs r ≡ verdict c (headerTaken c role (headerReadAs header)) ⌝ }
+{
+    match header {
+        ReadHeader::Number(far) => {
+            let reply = answering(role, c.own);
+            let next = with_stage(c, Stage::Up(role, far));
+            Judged {
+                connection: next,
+                answer: Answer::Header(far),
+                reply,
+            }
+        }
+        ReadHeader::Incomplete => refused(c, Refusal::Incomplete),
+        ReadHeader::Violated(violation) => violated(c, violation),
+    }
+}
+
+// A message that is read is judged.
+fn take_message(c: Connection, message: Read) -> Judged
+    ensures { λ r. ⌜ verdictAs r ≡ verdict c (messageTaken c (readAs message)) ⌝ }
+{
+    match message {
+        Read::Message(m) => judge(c, m),
+        Read::Incomplete => refused(c, Refusal::Incomplete),
+        Read::Violated(violation) => violated(c, violation),
+    }
+}
+
+fn other_end(role: Role) -> Role
+    ensures { λ r. ⌜ r ≡ otherEnd role ⌝ }
+{
+    match role {
+        Role::Client => Role::Server,
+        Role::Server => Role::Client,
+    }
+}
+
+// Reads what the stage of the connection has next.
+pub(crate) fn read(c: Connection, input: &[u8]) -> Judged
+    ensures { λ r. ⌜ verdictAs r ≡ verdict c (reading c (now (input .entry)) (c .stage)) ⌝ }
+{
+    let stage = c.stage;
+    match stage {
+        Stage::Fresh(role) => take_header(c, role, read_connection_header(input)),
+        Stage::Started => take_header(c, Role::Client, read_connection_header(input)),
+        Stage::Up(role, _) => take_message(c, read_message(other_end(role), input)),
+    }
+}

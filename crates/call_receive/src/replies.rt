@@ -1,0 +1,61 @@
+// What a receive gives: the reply is written, and the bytes used and the place of the payload follow from the answer.
+use connection_judge::Judged;
+use connection_judge::Reply;
+use connection_judge::end_of;
+use connection_judge::start_of;
+use connection_judge::used_by;
+use connection_output::Outgoing;
+use connection_output::write;
+use own_messages::OwnMessage;
+use state::Called;
+ghost use mathlib.Core.Path.{_≡_};
+ghost use mathlib.Core.List.{[]};
+ghost use Prim.Native.Nat.{_≤_};
+ghost use lib.ListN.{length};
+ghost use Rattle.protocol.specs.Result.{calledAs, bytesOfAll};
+ghost use Rattle.connection_output.specs.Outgoing.{written};
+ghost use Rattle.connection_judge.specs.Verdict.{repliesAs, verdictAs};
+ghost use Rattle.call_receive.specs.Concluded.{concluded};
+
+// Writes our header and an Error behind it, 12 bytes.
+fn write_header_error(own: u16, room: &mut [u8]) -> usize
+    requires { ⌜ 12 ≤ length (now room) ⌝ }
+    ensures { λ r. ⌜ (r, now (room .exit)) ≡ written (bytesOfAll [] (repliesAs (Reply.HeaderError own))) (now (room .entry)) ⌝ }
+{
+    write(Outgoing::Header(own), room);
+    write(Outgoing::Message(OwnMessage::Error), &mut room[8..]);
+    12
+}
+
+// Writes the reply and answers how many bytes it is.
+fn write_reply(reply: Reply, room: &mut [u8]) -> usize
+    requires { ⌜ 12 ≤ length (now room) ⌝ }
+    ensures { λ r. ⌜ (r, now (room .exit)) ≡ written (bytesOfAll [] (repliesAs reply)) (now (room .entry)) ⌝ }
+{
+    match reply {
+        Reply::Only(out) => write(out, room),
+        Reply::HeaderError(own) => write_header_error(own, room),
+    }
+}
+
+// What the call gives, once its reply is written.
+pub(crate) fn conclude(judged: Judged, room: &mut [u8]) -> Called
+    requires { ⌜ 12 ≤ length (now room) ⌝ }
+    ensures { λ r. ⌜ (calledAs r, now (room .exit)) ≡ concluded (verdictAs judged) (now (room .entry)) ⌝ }
+{
+    let connection = judged.connection;
+    let answer = judged.answer;
+    let reply = judged.reply;
+    let wrote = write_reply(reply, room);
+    let used = used_by(answer);
+    let start = start_of(answer);
+    let end = end_of(answer);
+    Called {
+        connection,
+        answer,
+        used,
+        wrote,
+        start,
+        end,
+    }
+}

@@ -1,0 +1,20 @@
+-- A flag is 1 where it is set, and the nearest one is found going round the 128 numbers.
+use Prim.Native.Nat.{ℕ}
+use mathlib.Core.Bool.{Bool}
+use mathlib.Core.List.{List}
+use lib.ListN.{getD}
+use lib.Dec.{eqb}
+use Rattle.laws.specs.Pick.{pick}
+use Rattle.laws.specs.Circle.{nearest}
+use Rattle.call_search.specs.declared.Found.{Found}
+use Rattle.call_search.specs.declared.Found.the-variants as found
+
+abbrev pub isSet : List ℕ → ℕ → Bool
+isSet flags n = eqb (getD flags n 0) 1
+
+-- the nearest number after i that passes the test, or nothing where none does
+unfoldable pub nearestFound : (ℕ → Bool) → ℕ → Found
+nearestFound test i = pick (test (nearest test i)) (found.At (nearest test i)) found.Nothing
+
+abbrev pub nearestSet : List ℕ → ℕ → Found
+nearestSet flags last = nearestFound (isSet flags) last

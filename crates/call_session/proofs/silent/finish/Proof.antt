@@ -1,0 +1,30 @@
+-- `finish` meets its contract: what is asked of the session, by the rule of the call.
+use mathlib.Core.Path.{refl, ap, _∙_}
+use mathlib.Core.List.{[]}
+use borrow.Author.Needs.{needs}
+use Rattle.protocol.specs.Judge.{done, with-session}
+use Rattle.protocol.specs.Plan.{take}
+use Rattle.protocol.specs.Connection.{at}
+use Rattle.protocol.specs.Ask.{finishAsk}
+use Rattle.protocol.specs.Call.{upAndRunning, numberIn, finishRule}
+use Rattle.protocol.specs.Result.{given, finishCall}
+use Rattle.call_checks.proofs.Calls.{by-rule}
+use Rattle.call_checks.proofs.Steps.{quiet}
+use Rattle.call_session.proofs.silent.finish.Statement.{statement}
+use Rattle.call_session.proofs.silent.finish.Tie as tie
+
+ask-requires : tie.Need-ask-requires
+unfolding finishAsk
+ask-requires c κs = quiet (finishAsk (c .before .session-at .result)) (λ _. refl) (c .finish .ensures)
+
+returns : tie.Need-returns
+unfolding finishCall finishRule
+returns c =
+    let step = c .before in
+    let a = step .before .before .args in
+    c .ask .ensures
+    ∙ ap (given (a .c) [])
+    (by-rule (with-session (a .c) (a .n) (a .c .last) done) (upAndRunning (a .c) (numberIn (a .n) (take tt))) (finishAsk (at (a .c) (a .n))) (rw (step .before .session-at .ensures) at (step .finish .ensures)))
+
+pub finish-spec : {M : Type 1} → statement M
+finish-spec = tie.close (tie.spec (λ c κs. search needs) (λ c κs. search needs) ask-requires returns)

@@ -1,0 +1,43 @@
+// What is asked of a session, as what the call gives.
+use call_checks::Gate;
+use call_checks::done;
+use call_checks::refused;
+use call_checks::to_session;
+use connection::with_session;
+use session::Asked;
+use state::Called;
+use state::Connection;
+ghost use mathlib.Core.Path.{_≡_};
+ghost use mathlib.Core.List.{[]};
+ghost use Rattle.protocol.specs.Judge.{with-session, done as Judge·done};
+ghost use Rattle.protocol.specs.Result.{given, calledAs};
+ghost use Rattle.session.specs.Step.{askedAs};
+ghost use Rattle.protocol.specs.Plan.{take};
+ghost use Rattle.protocol.specs.Call.{upAndRunning, numberIn};
+ghost use Rattle.call_checks.specs.Asking.{Quiet, decision, afterChecks};
+
+// A call that writes nothing.
+fn conclude(c: Connection, n: u8, asked: Asked) -> Called
+    requires { ⌜ Quiet (askedAs asked) ⌝ }
+    ensures { λ r. ⌜ calledAs r ≡ given c [] (decision (with-session c n (c .last) Judge·done) (askedAs asked)) ⌝ }
+{
+    match asked {
+        Asked::Taken(t) => {
+            let x = t.session;
+            done(with_session(c, n, x), 0)
+        }
+        Asked::Refused(refusal) => refused(c, refusal),
+    }
+}
+
+// What a call gives that asks a step of the session of a number.
+pub(crate) fn ask(c: Connection, n: u8, asked: Asked) -> Called
+    requires { ⌜ Quiet (askedAs asked) ⌝ }
+    ensures { λ r. ⌜ calledAs r ≡ given c [] (afterChecks (upAndRunning c (numberIn n (take tt))) (with-session c n (c .last) Judge·done) (askedAs asked)) ⌝ }
+{
+    let gate = to_session(c, n);
+    match gate {
+        Gate::Passed => conclude(c, n, asked),
+        Gate::Refused(refusal) => refused(c, refusal),
+    }
+}

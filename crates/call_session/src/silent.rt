@@ -1,0 +1,26 @@
+// The calls on one session that write nothing: open and finish.
+
+use crate::asking::ask;
+use connection::role_of;
+use connection::session_at;
+use state::Called;
+use state::Connection;
+ghost use mathlib.Core.Path.{_≡_};
+ghost use Rattle.protocol.specs.Result.{calledAs, openCall, finishCall};
+
+// Opens a session of a client's.
+pub fn open_session(c: Connection, n: u8) -> Called
+    ensures { λ r. ⌜ calledAs r ≡ openCall c n ⌝ }
+{
+    let stage = c.stage;
+    let asked = session_open::open_session(role_of(stage), session_at(c, n));
+    ask(c, n, asked)
+}
+
+// Asks for the end of our side, after the bytes that wait.
+pub fn finish(c: Connection, n: u8) -> Called
+    ensures { λ r. ⌜ calledAs r ≡ finishCall c n ⌝ }
+{
+    let asked = session_send::finish(session_at(c, n));
+    ask(c, n, asked)
+}

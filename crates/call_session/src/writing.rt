@@ -1,0 +1,34 @@
+// The calls on one session that write a message: grant, abort and close.
+use call_checks::ask_in;
+use connection::role_of;
+use connection::session_at;
+use state::Called;
+use state::Connection;
+ghost use mathlib.Core.Path.{_≡_};
+ghost use Rattle.protocol.specs.Result.{calledAs, grantCall, abortCall, closeCall};
+
+// Grants the far end more bytes.
+pub fn grant(c: Connection, n: u8, amount: u32, room: &mut [u8]) -> Called
+    ensures { λ r. ⌜ (calledAs r, now (room .exit)) ≡ grantCall c n amount (now (room .entry)) ⌝ }
+{
+    let asked = session_grant::grant(session_at(c, n), amount);
+    ask_in(c, n, asked, room)
+}
+
+// Ends our side at once and drops what waits.
+pub fn abort(c: Connection, n: u8, partial: bool, room: &mut [u8]) -> Called
+    ensures { λ r. ⌜ (calledAs r, now (room .exit)) ≡ abortCall c n partial (now (room .entry)) ⌝ }
+{
+    let stage = c.stage;
+    let asked = session_end::abort(role_of(stage), session_at(c, n), partial);
+    ask_in(c, n, asked, room)
+}
+
+// Closes a session of a server's.
+pub fn close(c: Connection, n: u8, room: &mut [u8]) -> Called
+    ensures { λ r. ⌜ (calledAs r, now (room .exit)) ≡ closeCall c n (now (room .entry)) ⌝ }
+{
+    let stage = c.stage;
+    let asked = session_end::close(role_of(stage), session_at(c, n));
+    ask_in(c, n, asked, room)
+}

@@ -1,0 +1,3 @@
+-- The law of the reader of captures, and what the proofs by hand share.
+pub mod Laws
+mod Held

@@ -1,0 +1,50 @@
+// The reader of captures, which keeps hold of a capture's bytes and of its place in them.
+use capture_rules::Next;
+use capture_rules::Step;
+use capture_step::next_at;
+use wire::Role;
+ghost use mathlib.Core.Path.{_≡_};
+ghost use Rattle.capture_rules.specs.Place.{stepAt, nextAs, stepAs};
+ghost use Rattle.capture_reader.specs.Capture.{opened, advanced};
+
+// The place of the first message, behind the connection header, which is not read here.
+pub const FIRST_PLACE: usize = 8;
+
+// A reader at a place of the capture that is lent to it.
+pub struct Reader<'a> {
+    pub capture: &'a [u8],
+    pub place: usize,
+}
+
+impl<'a> Reader<'a> {
+    // A reader at the first message of a capture.
+    pub fn new(capture: &'a [u8]) -> Reader<'a>
+        ensures { λ r. ⌜ r ≡ opened (capture .entry) ⌝ }
+    {
+        Reader {
+            capture,
+            place: FIRST_PLACE,
+        }
+    }
+
+    // What stands at the reader's place, for a sender; the reader moves past a message, and a refusal keeps its place.
+    pub fn next(&mut self, from: Role) -> Next
+        ensures { λ r. ⌜ (nextAs r, now (self .exit)) ≡ advanced from (now (self .entry)) ⌝ }
+    {
+        let step = next_at(self.capture, from, self.place);
+        self.place = step.place;
+        step.next
+    }
+}
+
+// What a reader of a capture finds at a place, for a sender.
+pub fn read_at(capture: &[u8], from: Role, place: usize) -> Step
+    ensures { λ r. ⌜ stepAs r ≡ stepAt from (now (capture .entry)) place ⌝ }
+{
+    let mut reader = Reader { capture, place };
+    let next = reader.next(from);
+    Step {
+        next,
+        place: reader.place,
+    }
+}

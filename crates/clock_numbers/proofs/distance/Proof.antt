@@ -1,0 +1,12 @@
+-- `distance` meets its contract: each branch follows its test.
+use Rattle.clock_numbers.proofs.distance.Statement.{statement}
+use Rattle.clock_numbers.proofs.distance.Tie as tie
+
+returns : tie.Need-returns
+returns c = simp (c .if1 .taken)
+
+returns-2 : tie.Need-returns-2
+returns-2 c = simp (c .if1 .left)
+
+pub distance-spec : {M : Type 1} → statement M
+distance-spec = tie.close (tie.spec returns returns-2)

@@ -1,0 +1,60 @@
+// How a connection ends, and what becomes of its sessions.
+use crate::Cause;
+use session::parts::settled;
+use state::Connection;
+use state::Outcome;
+use state::Session;
+use state::Sides;
+ghost use mathlib.Core.Path.{_≡_};
+ghost use mathlib.Core.List.{map};
+ghost use Rattle.protocol.specs.Connection.{unlessSent, ending as Connection·ending, ended as Connection·ended};
+ghost use Rattle.connection.specs.Cause.{causeAs};
+
+// A session that was sent must not be retried, an opening may be.
+fn unless_sent(sides: Sides) -> Outcome
+    ensures { λ r. ⌜ r ≡ unlessSent sides ⌝ }
+{
+    match sides {
+        Sides::Idle => Outcome::MustNotRetry,
+        Sides::Opening(_) => Outcome::MayRetry,
+        Sides::Live(_, _) => Outcome::MustNotRetry,
+    }
+}
+
+// What becomes of a session when the connection ends.
+fn ending(cause: Cause, x: Session) -> Session
+    ensures { λ r. ⌜ r ≡ Connection·ending (causeAs cause) x ⌝ }
+{
+    let sides = x.sides;
+    match cause {
+        Cause::ShutdownReceived => settled(x, Outcome::MayRetry),
+        Cause::ErrorReceived => settled(x, unless_sent(sides)),
+        Cause::OwnShutdown => x,
+        Cause::LineLost => settled(x, unless_sent(sides)),
+    }
+}
+
+fn end_all(table: [Session; 128], cause: Cause) -> [Session; 128]
+    ensures { λ r. ⌜ r ≡ map (Connection·ending (causeAs cause)) table ⌝ }
+{
+    let mut next = table;
+    let mut i: usize = 0;
+    while i < 128 {
+        let x = next[i];
+        next[i] = ending(cause, x);
+        i += 1;
+    }
+    next
+}
+
+// The connection over, by a cause.
+pub fn ended(c: Connection, cause: Cause) -> Connection
+    ensures { λ r. ⌜ r ≡ Connection·ended (causeAs cause) c ⌝ }
+{
+    let table = c.sessions;
+    let all = end_all(table, cause);
+    let mut next = c;
+    next.sessions = all;
+    next.over = true;
+    next
+}

@@ -1,0 +1,66 @@
+// What a receive comes to before anything is written, and three of its ways: refused, a violation, a message taken.
+use crate::Judged;
+use crate::Reply;
+use connection::Cause;
+use connection::ended;
+use connection_output::Outgoing;
+use own_messages::OwnMessage;
+use refusal::Refusal;
+use refusal::Violation;
+use state::Answer;
+use state::Connection;
+use state::Stage;
+use wire::Message;
+ghost use mathlib.Core.Path.{_≡_};
+ghost use Rattle.laws.specs.Result.{ok};
+ghost use Rattle.refusal.specs.Number.{refusalNumber, violationNumber};
+ghost use Rattle.protocol.specs.Judge.{message, refuse, errorAfter, breach};
+ghost use Rattle.connection_output.specs.Outgoing.{outsAs};
+ghost use Rattle.connection_judge.specs.Verdict.{repliesAs, verdictAs, verdict};
+
+// A refusal leaves the connection as it is.
+pub fn refused(c: Connection, refusal: Refusal) -> Judged
+    ensures { λ r. ⌜ verdictAs r ≡ verdict c (refuse (refusalNumber refusal)) ⌝ }
+{
+    Judged {
+        connection: c,
+        answer: Answer::Refused(refusal),
+        reply: Reply::Only(Outgoing::Nothing),
+    }
+}
+
+// The reply to a violation: a server that has not sent its header sends it before the Error.
+fn error_after(stage: Stage, own: u16) -> Reply
+    ensures { λ r. ⌜ repliesAs r ≡ errorAfter stage own ⌝ }
+{
+    match stage {
+        Stage::Fresh(_) => Reply::HeaderError(own),
+        Stage::Started => Reply::Only(Outgoing::Message(OwnMessage::Error)),
+        Stage::Up(_, _) => Reply::Only(Outgoing::Message(OwnMessage::Error)),
+    }
+}
+
+// A violation ends the connection as a lost line does.
+pub fn violated(c: Connection, violation: Violation) -> Judged
+    ensures { λ r. ⌜ verdictAs r ≡ verdict c (breach c (violationNumber violation)) ⌝ }
+{
+    let stage = c.stage;
+    let reply = error_after(stage, c.own);
+    let next = ended(c, Cause::LineLost);
+    Judged {
+        connection: next,
+        answer: Answer::Violated(violation),
+        reply,
+    }
+}
+
+// A message is taken; `c` is the connection after it.
+pub(crate) fn taken(c: Connection, m: Message, late: bool, reply: Outgoing) -> Judged
+    ensures { λ r. ⌜ verdictAs r ≡ record { connection = c; answer = ok (message m late); outs = outsAs reply } ⌝ }
+{
+    Judged {
+        connection: c,
+        answer: Answer::Message { message: m, late },
+        reply: Reply::Only(reply),
+    }
+}

@@ -1,2 +1,0 @@
--- Laws of digits.
-pub mod Values

@@ -1,2 +1,0 @@
--- The definitions of the numbers in a text.
-pub mod Numbers

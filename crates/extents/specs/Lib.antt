@@ -1,2 +1,0 @@
--- The definitions of which bytes of the input an answer takes.
-pub mod Extent

@@ -1,2 +1,0 @@
--- The definitions of the checks that calls share.
-pub mod Gate

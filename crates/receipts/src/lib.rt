@@ -1,5 +1,0 @@
-// One session's step at a message received. No table of sessions is here.
-mod messages;
-mod moves;
-
-pub use messages::receive;

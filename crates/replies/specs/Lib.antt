@@ -1,2 +1,0 @@
--- The definitions of what a message received comes to.
-pub mod Receipt

@@ -1,2 +1,0 @@
--- The lines of what stands.
-pub mod States

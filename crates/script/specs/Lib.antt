@@ -1,2 +1,0 @@
--- The script language: what a line asks.
-pub mod Calls

@@ -1,0 +1,3 @@
+-- The definitions of what a line of a script asks.
+pub mod Names
+pub mod Calls

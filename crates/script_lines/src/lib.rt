@@ -1,0 +1,57 @@
+// The script of a replay: what a line asks.
+mod calls;
+mod names;
+
+pub use calls::begin;
+pub use calls::payload;
+pub use calls::read;
+use wire::Role;
+
+// A call of the engine; the bytes of put and receive stand in the line.
+pub enum Call {
+    Start,
+    Open(u8),
+    Put(u8),
+    Finish(u8),
+    Turn,
+    Grant(u8, u32),
+    Abort(u8, bool),
+    Close(u8),
+    Ping(u16),
+    Shutdown,
+    Lost,
+    Receive,
+}
+
+// What a line asks: a call with room of a length, a print of what stands, or nothing that there is.
+pub enum Line {
+    Call(Call, usize),
+    State,
+    Queue(u8),
+    Wrong,
+}
+
+// What the first line says: a connection's role, header number and queue length, or nothing that there is.
+pub enum Beginning {
+    Made(Role, u16, usize),
+    Wrong,
+}
+
+// What a line's first word names.
+pub enum Name {
+    Start,
+    Open,
+    Put,
+    Finish,
+    Turn,
+    Grant,
+    Abort,
+    Close,
+    Ping,
+    Shutdown,
+    Lost,
+    Receive,
+    State,
+    Queue,
+    Unknown,
+}

@@ -1,0 +1,116 @@
+// Close and abort: our side ends.
+use refusal::Refusal;
+use session::Asked;
+use session::Sent;
+use session::parts::dropped;
+use session::parts::settled;
+use session::parts::sided;
+use session::parts::taken;
+use state::Before;
+use state::Outcome;
+use state::Session;
+use state::Side;
+use state::Sides;
+use wire::Role;
+use wire_fields::is_client;
+ghost use mathlib.Core.Path.{_≡_};
+ghost use Prim.Native.Nat.{_-_};
+ghost use Rattle.protocol.specs.Session.{sided as Session·sided, dropped as Session·dropped, settled as Session·settled};
+ghost use Rattle.protocol.specs.Ask.{closeOf, closeAsk, restored as Ask·restored, aborting, abortOf, abortAsk};
+ghost use Rattle.session.specs.Step.{askedAs, toAsked};
+ghost use Rattle.state.specs.declared.Side.the-variants.{Finished};
+ghost use Rattle.state.specs.declared.Sides.the-variants.{Live};
+ghost use Rattle.state.specs.declared.Outcome.the-variants.{MayRetry};
+
+// Closes a session whose own side is finished.
+fn close_of(x: Session, sides: Sides) -> Asked
+    ensures { λ r. ⌜ askedAs r ≡ toAsked (closeOf x sides) ⌝ }
+{
+    match sides {
+        Sides::Idle => Asked::Refused(Refusal::WrongState),
+        Sides::Opening(_) => Asked::Refused(Refusal::WrongState),
+        Sides::Live(ours, theirs) => match ours {
+            Side::Open => Asked::Refused(Refusal::WrongState),
+            Side::Finished => {
+                let next = sided(x, Sides::Live(Side::Ended, theirs));
+                taken(next, Sent::Close)
+            }
+            Side::Ended => Asked::Refused(Refusal::WrongState),
+        },
+    }
+}
+
+// Closes a session of a server's.
+pub fn close(role: Role, x: Session) -> Asked
+    ensures { λ r. ⌜ askedAs r ≡ toAsked (closeAsk role x) ⌝ }
+{
+    if is_client(role) {
+        return Asked::Refused(Refusal::WrongRole);
+    }
+    let sides = x.sides;
+    close_of(x, sides)
+}
+
+// The sides that stood before an open.
+fn restored(before: Before) -> Sides
+    ensures { λ r. ⌜ r ≡ Ask·restored before ⌝ }
+{
+    match before {
+        Before::Idle => Sides::Idle,
+        Before::Finished => Sides::Live(Side::Finished, Side::Ended),
+        Before::Ended => Sides::Live(Side::Ended, Side::Ended),
+    }
+}
+
+// Aborts an opening: nothing was sent, so nothing is written.
+fn abort_opening(x: Session, before: Before) -> Session
+    ensures { λ r. ⌜ r ≡ Session·dropped (Session·sided (Ask·restored before) (Session·settled MayRetry x)) ⌝ }
+{
+    let sides = restored(before);
+    dropped(sided(settled(x, Outcome::MayRetry), sides))
+}
+
+// Aborts a session that was sent.
+fn abort_sent(x: Session, partial: bool, theirs: Side) -> Asked
+    ensures { λ r. ⌜ askedAs r ≡ toAsked (aborting partial theirs x) ⌝ }
+{
+    let sides = Sides::Live(Side::Ended, theirs);
+    let next = dropped(sided(settled(x, Outcome::MustNotRetry), sides));
+    taken(next, Sent::Abort(partial))
+}
+
+fn abort_finished(x: Session, partial: bool, theirs: Side) -> Asked
+    ensures { λ r. ⌜ askedAs r ≡ toAsked (abortOf x partial (Live Finished theirs)) ⌝ }
+{
+    match theirs {
+        Side::Open => abort_sent(x, partial, Side::Open),
+        Side::Finished => abort_sent(x, partial, Side::Finished),
+        Side::Ended => Asked::Refused(Refusal::WrongState),
+    }
+}
+
+fn abort_of(x: Session, partial: bool, sides: Sides) -> Asked
+    ensures { λ r. ⌜ askedAs r ≡ toAsked (abortOf x partial sides) ⌝ }
+{
+    match sides {
+        Sides::Idle => Asked::Refused(Refusal::WrongState),
+        Sides::Opening(before) => taken(abort_opening(x, before), Sent::Nothing),
+        Sides::Live(ours, theirs) => match ours {
+            Side::Open => abort_sent(x, partial, theirs),
+            Side::Finished => abort_finished(x, partial, theirs),
+            Side::Ended => Asked::Refused(Refusal::WrongState),
+        },
+    }
+}
+
+// Aborts a session.
+pub fn abort(role: Role, x: Session, partial: bool) -> Asked
+    ensures { λ r. ⌜ askedAs r ≡ toAsked (abortAsk role x partial) ⌝ }
+{
+    let client = is_client(role);
+    if partial & client {
+        return Asked::Refused(Refusal::WrongRole);
+    }
+    let sides = x.sides;
+    abort_of(x, partial, sides)
+}

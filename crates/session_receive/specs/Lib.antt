@@ -1,0 +1,3 @@
+-- The definitions of what a message received comes to.
+pub mod Move
+pub mod Receipt

@@ -1,0 +1,40 @@
+// What an IncrementRation received does to one session.
+use crate::Receipt;
+use crate::replies::taken;
+use ration::Grown;
+use refusal::Violation;
+use session::parts::rationed;
+use session::parts::sided;
+use state::Session;
+use state::Side;
+use state::Sides;
+ghost use mathlib.Core.Path.{_≡_};
+ghost use Rattle.state.specs.declared.Side.the-variants.{Open as Side·Open};
+ghost use Rattle.protocol.specs.Receipt.{incrementTo};
+ghost use Rattle.session_receive.specs.Receipt.{receiptAs, toReceipt};
+
+fn increment_to_open(x: Session, n: u32, theirs: Side) -> Receipt
+    ensures { λ r. ⌜ receiptAs r ≡ toReceipt (incrementTo x n Side·Open theirs) ⌝ }
+{
+    let outbound = x.outbound;
+    let inbound = x.inbound;
+    let grown = outbound.grow(n);
+    match grown {
+        Grown::To(more) => {
+            let next = sided(x, Sides::Live(Side::Open, theirs));
+            taken(rationed(next, more, inbound), false)
+        }
+        Grown::PastLargest => Receipt::Violated(Violation::PastLargest),
+    }
+}
+
+// An increment to our open side counts; to any other it is late and changes nothing.
+pub(crate) fn increment_to(x: Session, n: u32, ours: Side, theirs: Side) -> Receipt
+    ensures { λ r. ⌜ receiptAs r ≡ toReceipt (incrementTo x n ours theirs) ⌝ }
+{
+    match ours {
+        Side::Open => increment_to_open(x, n, theirs),
+        Side::Finished => taken(sided(x, Sides::Live(Side::Finished, theirs)), true),
+        Side::Ended => taken(sided(x, Sides::Live(Side::Ended, theirs)), true),
+    }
+}

@@ -1,0 +1,8 @@
+// One session's steps at what it sends: bytes put, the end asked for, and the turn that sends them.
+mod putting;
+mod turns;
+
+pub use putting::finish;
+pub use putting::put;
+pub use turns::ready;
+pub use turns::turn;

@@ -1,2 +1,0 @@
--- The words of the parts of a state.
-pub mod Parts

@@ -1,2 +1,0 @@
--- The definition of the answer.
-pub mod Answer

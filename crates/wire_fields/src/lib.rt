@@ -1,0 +1,16 @@
+// What holds of a message whatever reads or writes it: its items, how many bytes it tells of, and whose it is to send.
+mod amounts;
+mod items;
+mod roles;
+mod senders;
+
+pub use amounts::body_length;
+pub use amounts::effective_increment;
+pub use items::kind_of_message;
+pub use items::number_of;
+pub use items::second_byte;
+pub use items::shift_of;
+pub use roles::is_client;
+pub use roles::is_server;
+pub use senders::flags_allowed;
+pub use senders::may_send;
