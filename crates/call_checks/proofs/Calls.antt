@@ -19,17 +19,18 @@ use Rattle.protocol.specs.Plan.{Plan, stop, check, take, settle, andThen}
 use Rattle.state.specs.New.{blank}
 use Rattle.protocol.specs.Receipt.{Taken}
 use Rattle.protocol.specs.Connection.{Cause, ended}
-use Rattle.protocol.specs.Judge.{Report, done, Out, opening, sent, Effect, refuse, accept, with-stage, with-ping, ends-by, commit}
+use Rattle.protocol.specs.Judge.{Report, done, Out, own-header, sent, Effect, refuse, accept, with-stage, with-ping, ends-by, commit}
 use Rattle.protocol.specs.Call.{running, upAndRunning, roomFor}
-use Rattle.protocol.specs.Result.{Given, given, bytesOfAll, over, inRoom, decided}
+use Rattle.laws.specs.Room.{overlaid, atFront}
+use Rattle.protocol.specs.Result.{Given, given, bytesOfAll, inRoom, decided}
 use Rattle.session.specs.Step.{toAsked}
 use Rattle.call_checks.specs.declared.Gate.{Gate}
 use Rattle.call_checks.specs.declared.Gate.the-variants as gate
 use Rattle.call_checks.specs.Gate.{gateAs, toGate, behind}
 use Rattle.connection.specs.Table.{withStage, withPing}
 use Rattle.call_checks.proofs.Checks.{followedBy, gated}
-use Rattle.connection_output.specs.Outgoing.{written}
-use Rattle.connection_output.proofs.Rooms.{fits, one-message}
+use Rattle.laws.proofs.Rooms.{fits}
+use Rattle.connection_output.proofs.Rooms.{one-message}
 use Rattle.call_checks.specs.Asking.{decision, afterChecks}
 
 -- ---- the gate
@@ -98,11 +99,11 @@ module _ (c : Connection) (e : Effect) (r : done ≡ e .report) {next : Connecti
   taken w = rw (q, w, ← r)
 
   pub taken-in : (room : List ℕ) {wrote : ℕ} {last : List ℕ} → length (bytesOfAll [] (e .outs)) ≤ length room
-      → (wrote, last) ≡ written (bytesOfAll [] (e .outs)) room → (giving next wrote, last) ≡ inRoom c room (accept e)
+      → (wrote, last) ≡ atFront (bytesOfAll [] (e .outs)) room → (giving next wrote, last) ≡ inRoom c room (accept e)
   taken-in room {wrote} {last} h w =
       let whole = w ∙ fits (bytesOfAll [] (e .outs)) room h in
       let same : giving next wrote ≡ given c [] (accept e) = taken (ap (λ (x : ℕ × List ℕ). x .0) whole) in
-      let rest : last ≡ over (bytesOfAll [] (e .outs)) room = ap (λ (x : ℕ × List ℕ). x .1) whole in
+      let rest : last ≡ overlaid (bytesOfAll [] (e .outs)) room = ap (λ (x : ℕ × List ℕ). x .1) whole in
       rw (same, rest)
 
 -- the same, for a result that is known to be what is given
@@ -133,7 +134,7 @@ module _ (c : Connection) (r : Report) (outs : List Out) where
 pub four : (m : Message) (room : List ℕ) → 4 ≤ length room → length (bytesOfAll [] (sent m ∷ [])) ≤ length room
 four m room h = rw one-message h
 
-pub eight : (n : ℕ) (room : List ℕ) → 8 ≤ length room → length (bytesOfAll [] (opening n ∷ [])) ≤ length room
+pub eight : (n : ℕ) (room : List ℕ) → 8 ≤ length room → length (bytesOfAll [] (own-header n ∷ [])) ≤ length room
 unfolding bytesOfAll
 eight n room h = h
 

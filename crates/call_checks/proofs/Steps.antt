@@ -29,7 +29,7 @@ use Rattle.session.specs.declared.Asked.{Asked}
 use Rattle.session.specs.declared.Asked.the-variants as asked
 use Rattle.session.specs.Step.{sentAs, takenAs, askedAs, toAsked}
 use Rattle.connection.specs.Table.{withSession}
-use Rattle.connection_output.specs.Outgoing.{written}
+use Rattle.laws.specs.Room.{atFront}
 use Rattle.call_checks.specs.Asking.{Quiet, decision}
 use Rattle.call_checks.proofs.Calls.{giving, taken, taken-in, refusing-in, four, none}
 
@@ -84,7 +84,7 @@ module _ (c : Connection) (n : ℕ) {x : Asked} {res : Given} where
 
   pub step-taken-in : (room : List ℕ) {t : Taken} {next : Connection} {wrote : ℕ} {last : List ℕ} {outs : List Out} → 4 ≤ length room
       → x ≡ asked.Taken t → next ≡ withSession c n (t .session) → outs ≡ map (λ m. sent (numbered n m)) (sentAs (t .sent))
-      → (wrote, last) ≡ written (bytesOfAll [] outs) room → res ≡ giving next wrote → (res, last) ≡ inRoom c room (decision (with-session c n (c .last) done) (askedAs x))
+      → (wrote, last) ≡ atFront (bytesOfAll [] outs) room → res ≡ giving next wrote → (res, last) ≡ inRoom c room (decision (with-session c n (c .last) done) (askedAs x))
   step-taken-in room {t} h e w o k g =
       rw (e, g)
       (taken-in c (with-session c n (c .last) done (takenAs t)) refl w room (sent-fits n (t .sent) room h) (rw o at k))

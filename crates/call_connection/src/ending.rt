@@ -10,10 +10,10 @@ use connection::ended;
 use connection::role_of;
 use connection_output::Outgoing;
 use connection_output::write;
-use own_messages::OwnMessage;
 use refusal::Refusal;
 use state::Called;
 use state::Connection;
+use wire::Message;
 use wire_fields::is_client;
 ghost use mathlib.Core.Path.{_≡_};
 ghost use Rattle.protocol.specs.Result.{calledAs, shutdownCall, lostCall};
@@ -27,7 +27,7 @@ pub fn shutdown(c: Connection, room: &mut [u8]) -> Called
     let gate = further(to_write(c, room.len()), client, Refusal::WrongRole);
     match gate {
         Gate::Passed => {
-            let wrote = write(Outgoing::Message(OwnMessage::Shutdown), room);
+            let wrote = write(Outgoing::Message(Message::Shutdown { length: 0 }), room);
             done(ended(c, Cause::OwnShutdown), wrote)
         }
         Gate::Refused(refusal) => refused(c, refusal),

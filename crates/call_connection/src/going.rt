@@ -10,12 +10,12 @@ use connection::with_ping;
 use connection::with_stage;
 use connection_output::Outgoing;
 use connection_output::write;
-use own_messages::OwnMessage;
 use refusal::Refusal;
 use state::Called;
 use state::Connection;
 use state::Ping;
 use state::Stage;
+use wire::Message;
 use wire_fields::is_server;
 ghost use mathlib.Core.Path.{_≡_};
 ghost use Rattle.protocol.specs.Call.{isFresh, isOutstanding};
@@ -72,7 +72,7 @@ pub fn ping(c: Connection, cookie: u16, room: &mut [u8]) -> Called
     );
     match gate {
         Gate::Passed => {
-            let wrote = write(Outgoing::Message(OwnMessage::Ping(cookie)), room);
+            let wrote = write(Outgoing::Message(Message::Ping { cookie }), room);
             done(with_ping(c, Ping::Outstanding(cookie)), wrote)
         }
         Gate::Refused(refusal) => refused(c, refusal),

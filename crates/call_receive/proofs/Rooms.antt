@@ -7,12 +7,12 @@ use lib.ListN.{length, take, drop, length-append, length-drop, drop-of-length-le
 use lib.Seq.{take-all, take-append-seam, drop-append-seam, drop-drop}
 use borrow.Rule.Slice.PartMut.{putMid}
 use Rattle.wire.specs.declared.Message.the-variants as msg
-use Rattle.protocol.specs.Judge.{opening, sent}
-use Rattle.protocol.specs.Result.{bytesOfAll, over}
+use Rattle.protocol.specs.Judge.{own-header, sent}
+use Rattle.laws.specs.Room.{overlaid, atFront}
+use Rattle.protocol.specs.Result.{bytesOfAll}
 use Rattle.connection_output.specs.declared.Outgoing.the-variants as outgoing
-use Rattle.own_messages.specs.Own.{messageAs}
-use Rattle.connection_output.specs.Outgoing.{written}
-use Rattle.connection_output.proofs.Rooms.{fits, one-message}
+use Rattle.laws.proofs.Rooms.{fits}
+use Rattle.connection_output.proofs.Rooms.{one-message}
 use Rattle.connection_judge.specs.declared.Reply.{Reply}
 use Rattle.connection_judge.specs.declared.Reply.the-variants as reply
 use Rattle.connection_judge.specs.Verdict.{Verdict, repliesAs}
@@ -27,17 +27,17 @@ back a l p =
 
 -- bytes at the front of a room, and others behind them
 module _ (first second room : List ℕ) (h : length first + length second ≤ length room) {a b : ℕ} {mid part : List ℕ} where
-  pub one-behind : (a, mid) ≡ written first room → (b, part) ≡ written second (take (length mid - length first) (drop (length first) mid))
-      → putMid (length first) (length mid - length first) mid part ≡ over (first ++ second) room
+  pub one-behind : (a, mid) ≡ atFront first room → (b, part) ≡ atFront second (take (length mid - length first) (drop (length first) mid))
+      → putMid (length first) (length mid - length first) mid part ≡ overlaid (first ++ second) room
   one-behind p q =
       let n = length first in
       let rest = drop (length first) room in
-      let is : mid ≡ over first room = ap (λ (x : ℕ × List ℕ). x .1) (p ∙ fits first room (omega arith)) in
+      let is : mid ≡ overlaid first room = ap (λ (x : ℕ × List ℕ). x .1) (p ∙ fits first room (omega arith)) in
       let long : length (drop n mid) ≤ length mid - n = simp length-drop (omega arith) in
       let behind : take (length mid - n) (drop n mid) ≡ rest =
       take-all (length mid - n) (drop n mid) long ∙ ap (drop n) is ∙ drop-append-seam first rest in
       let roomy : length second ≤ length rest = simp length-drop (omega arith) in
-      let put : part ≡ over second rest = ap (λ (x : ℕ × List ℕ). x .1) (q ∙ ap (written second) behind ∙ fits second rest roomy) in
+      let put : part ≡ overlaid second rest = ap (λ (x : ℕ × List ℕ). x .1) (q ∙ ap (atFront second) behind ∙ fits second rest roomy) in
       back n mid part
       ∙ ap (λ (l : List ℕ). take n l ++ part) is
       ∙ ap (λ (l : List ℕ). l ++ part) (take-append-seam first rest)
@@ -46,24 +46,24 @@ module _ (first second room : List ℕ) (h : length first + length second ≤ le
       ∙ ap (λ (k : ℕ). (first ++ second) ++ drop k room) (sym (length-append first second))
 
 pub header-error : (own : ℕ) (room : List ℕ) → 12 ≤ length room → {a b : ℕ} {mid part : List ℕ}
-    → (a, mid) ≡ written (bytesOfAll [] (opening own ∷ [])) room
-    → (b, part) ≡ written (bytesOfAll [] (sent (msg.Error 0) ∷ [])) (take (length mid - 8) (drop 8 mid))
-    → (12, putMid 8 (length mid - 8) mid part) ≡ written (bytesOfAll [] (opening own ∷ sent (msg.Error 0) ∷ [])) room
+    → (a, mid) ≡ atFront (bytesOfAll [] (own-header own ∷ [])) room
+    → (b, part) ≡ atFront (bytesOfAll [] (sent (msg.Error 0) ∷ [])) (take (length mid - 8) (drop 8 mid))
+    → (12, putMid 8 (length mid - 8) mid part) ≡ atFront (bytesOfAll [] (own-header own ∷ sent (msg.Error 0) ∷ [])) room
 unfolding bytesOfAll
 header-error own room h p q =
-    ap (λ (l : List ℕ). (12, l)) (one-behind (bytesOfAll [] (opening own ∷ [])) (bytesOfAll [] (sent (msg.Error 0) ∷ [])) room h p q)
-    ∙ sym (fits (bytesOfAll [] (opening own ∷ sent (msg.Error 0) ∷ [])) room h)
+    ap (λ (l : List ℕ). (12, l)) (one-behind (bytesOfAll [] (own-header own ∷ [])) (bytesOfAll [] (sent (msg.Error 0) ∷ [])) room h p q)
+    ∙ sym (fits (bytesOfAll [] (own-header own ∷ sent (msg.Error 0) ∷ [])) room h)
 
 pub fits-twelve : (r : Reply) → length (bytesOfAll [] (repliesAs r)) ≤ 12
 unfolding bytesOfAll
 fits-twelve (reply.Only outgoing.Nothing) = omega arith
 fits-twelve (reply.Only (outgoing.Header n)) = omega arith
-fits-twelve (reply.Only (outgoing.Message m)) = omega (arith, ap length (one-message (messageAs m)))
+fits-twelve (reply.Only (outgoing.Message m)) = omega (arith, ap length (one-message m))
 fits-twelve (reply.HeaderError n) = omega arith
 
 -- what is given, from the parts that the code computes
 pub concludes : (v : Verdict) (room : List ℕ) {used wrote start end : ℕ} {last : List ℕ} → length (bytesOfAll [] (v .outs)) ≤ length room
-    → (wrote, last) ≡ written (bytesOfAll [] (v .outs)) room → used ≡ usedIn (v .answer)
+    → (wrote, last) ≡ atFront (bytesOfAll [] (v .outs)) room → used ≡ usedIn (v .answer)
     → start ≡ startIn (v .answer) → end ≡ endIn (v .answer)
     → (record { connection = v .connection; answer = v .answer; used = used; wrote = wrote; start = start; end = end }, last) ≡ concluded v room
 concludes v room h w u s e =

@@ -2,7 +2,8 @@
 use Prim.Native.Nat.{ℕ}
 use mathlib.Core.List.{List, []}
 use lib.ListN.{length}
-use Rattle.protocol.specs.Result.{Given, bytesOfAll, over}
+use Rattle.laws.specs.Room.{overlaid}
+use Rattle.protocol.specs.Result.{Given, bytesOfAll}
 use Rattle.connection_judge.specs.Extent.{usedIn, startIn, endIn}
 use Rattle.connection_judge.specs.Verdict.{Verdict}
 
@@ -16,5 +17,5 @@ concluded v room = (
     start = startIn (v .answer);
     end = endIn (v .answer);
   },
-  over (bytesOfAll [] (v .outs)) room,
+  overlaid (bytesOfAll [] (v .outs)) room,
 )

@@ -6,31 +6,34 @@ use connection_judge::start_of;
 use connection_judge::used_by;
 use connection_output::Outgoing;
 use connection_output::write;
-use own_messages::OwnMessage;
 use state::Called;
+use wire::Message;
 ghost use mathlib.Core.Path.{_≡_};
 ghost use mathlib.Core.List.{[]};
 ghost use Prim.Native.Nat.{_≤_};
 ghost use lib.ListN.{length};
 ghost use Rattle.protocol.specs.Result.{calledAs, bytesOfAll};
-ghost use Rattle.connection_output.specs.Outgoing.{written};
+ghost use Rattle.laws.specs.Room.{atFront};
 ghost use Rattle.connection_judge.specs.Verdict.{repliesAs, verdictAs};
 ghost use Rattle.call_receive.specs.Concluded.{concluded};
 
 // Writes our header and an Error behind it, 12 bytes.
 fn write_header_error(own: u16, room: &mut [u8]) -> usize
     requires { ⌜ 12 ≤ length (now room) ⌝ }
-    ensures { λ r. ⌜ (r, now (room .exit)) ≡ written (bytesOfAll [] (repliesAs (Reply.HeaderError own))) (now (room .entry)) ⌝ }
+    ensures { λ r. ⌜ (r, now (room .exit)) ≡ atFront (bytesOfAll [] (repliesAs (Reply.HeaderError own))) (now (room .entry)) ⌝ }
 {
     write(Outgoing::Header(own), room);
-    write(Outgoing::Message(OwnMessage::Error), &mut room[8..]);
+    write(
+        Outgoing::Message(Message::Error { length: 0 }),
+        &mut room[8..],
+    );
     12
 }
 
 // Writes the reply and answers how many bytes it is.
 fn write_reply(reply: Reply, room: &mut [u8]) -> usize
     requires { ⌜ 12 ≤ length (now room) ⌝ }
-    ensures { λ r. ⌜ (r, now (room .exit)) ≡ written (bytesOfAll [] (repliesAs reply)) (now (room .entry)) ⌝ }
+    ensures { λ r. ⌜ (r, now (room .exit)) ≡ atFront (bytesOfAll [] (repliesAs reply)) (now (room .entry)) ⌝ }
 {
     match reply {
         Reply::Only(out) => write(out, room),

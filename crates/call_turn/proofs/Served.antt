@@ -22,7 +22,8 @@ use Rattle.protocol.specs.Message.{numbered}
 use Rattle.protocol.specs.Connection.{at, wellFormed}
 use Rattle.protocol.specs.Judge.{Out, sent, served, refuse, with-session}
 use Rattle.protocol.specs.Call.{upAndRunning, roomFor, queueOf}
-use Rattle.protocol.specs.Result.{Given, given, bytesOfAll, over}
+use Rattle.laws.specs.Room.{overlaid, atFront}
+use Rattle.protocol.specs.Result.{Given, given, bytesOfAll}
 use Rattle.protocol.proofs.Slots.{slot-length}
 use Rattle.session.specs.declared.Sent.{Sent}
 use Rattle.session.specs.declared.Sent.the-variants as session
@@ -33,8 +34,8 @@ use Rattle.session.specs.Step.{sentAs, takenAs, askedAs}
 use Rattle.call_checks.specs.declared.Gate.{Gate}
 use Rattle.call_checks.specs.declared.Gate.the-variants as gate
 use Rattle.call_checks.specs.Gate.{gateAs, toGate}
-use Rattle.connection_output.specs.Outgoing.{written}
-use Rattle.connection_output.proofs.Rooms.{fits, one-with}
+use Rattle.laws.proofs.Rooms.{fits}
+use Rattle.connection_output.proofs.Rooms.{one-with}
 use Rattle.call_slots.specs.Slots.{takenFrom}
 use Rattle.call_slots.proofs.Parts.{slot-part}
 use Rattle.call_checks.specs.Asking.{decision}
@@ -94,7 +95,7 @@ module _ (c : Connection) (n : ℕ) (queue room : List ℕ) {x : Asked} {res : G
   pub turn-taken : {w : ℕ} {t : Taken} {next : Connection} {wrote k : ℕ} {left last : List ℕ} {outs : List Out} → n < 128 → w ≡ at c n .waiting
       → w ≤ slotSize → length queue ≡ queueSize → turnRoom ≤ length room
       → x ≡ asked.Taken t → next ≡ withServed c n (t .session) → outs ≡ map (λ m. sent (numbered n m)) (sentAs (t .sent))
-      → (wrote, last) ≡ written (bytesOfAll (take (n * 256 + 256 - n * 256) (drop (n * 256) queue)) outs) room
+      → (wrote, last) ≡ atFront (bytesOfAll (take (n * 256 + 256 - n * 256) (drop (n * 256) queue)) outs) room
       → k ≡ w - t .session .waiting → left ≡ takenFrom queue n w k → res ≡ reporting next n wrote
       → (res, left, last) ≡ turnGives c queue room (decision (with-session c n n (served n)) (askedAs x))
   turn-taken {w} {t} {next} {wrote} {k} {left} {last} {outs} number waits within whole roomy e is o wr less l g =
@@ -102,7 +103,7 @@ module _ (c : Connection) (n : ℕ) (queue room : List ℕ) {x : Asked} {res : G
       let size = sent-fits n (slot n queue) (t .sent) (slot-length n queue number whole) in
       let out = rw (slot-part n queue, o) at wr ∙ fits bytes room (omega arith) in
       let count : wrote ≡ length (bytesOfAll (slot n queue) (map (λ m. sent (numbered n m)) (sentAs (t .sent)))) = ap (λ (p : ℕ × List ℕ). p .0) out in
-      let rest : last ≡ over (bytesOfAll (slot n queue) (map (λ m. sent (numbered n m)) (sentAs (t .sent)))) room = ap (λ (p : ℕ × List ℕ). p .1) out in
+      let rest : last ≡ overlaid (bytesOfAll (slot n queue) (map (λ m. sent (numbered n m)) (sentAs (t .sent)))) room = ap (λ (p : ℕ × List ℕ). p .1) out in
       let after : left ≡ withSlot n (turnSlot (at c n .waiting) (at c n .waiting - t .session .waiting) (slot n queue)) queue =
       l ∙ ap (takenFrom queue n w) less ∙ slot-without n w (t .session .waiting) queue number within whole
       ∙ ap (λ (v : ℕ). withSlot n (turnSlot v (v - t .session .waiting) (slot n queue)) queue) waits in

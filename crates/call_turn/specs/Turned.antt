@@ -5,7 +5,8 @@ use lib.ListN.{set}
 use Rattle.state.specs.declared.Session.{Session}
 use Rattle.state.specs.declared.Connection.{Connection}
 use Rattle.protocol.specs.Judge.{Decision}
-use Rattle.protocol.specs.Result.{Given, given, ifTaken, turned, turnPayload, writtenBy, over}
+use Rattle.laws.specs.Room.{overlaid}
+use Rattle.protocol.specs.Result.{Given, given, ifTaken, turned, turnPayload, writtenBy}
 
 -- the number that is served gets another session and is served last
 abbrev pub withServed : Connection → ℕ → Session → Connection
@@ -14,4 +15,4 @@ withServed c n x =
 
 abbrev pub turnGives : Connection → List ℕ → List ℕ → Decision → Given × List ℕ × List ℕ
 turnGives c queue room d =
-    (given c (turnPayload queue d) d, ifTaken d (turned c queue) queue, over (writtenBy (turnPayload queue d) d) room)
+    (given c (turnPayload queue d) d, ifTaken d (turned c queue) queue, overlaid (writtenBy (turnPayload queue d) d) room)

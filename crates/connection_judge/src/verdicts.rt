@@ -4,7 +4,6 @@ use crate::Reply;
 use connection::Cause;
 use connection::ended;
 use connection_output::Outgoing;
-use own_messages::OwnMessage;
 use refusal::Refusal;
 use refusal::Violation;
 use state::Answer;
@@ -35,8 +34,8 @@ fn error_after(stage: Stage, own: u16) -> Reply
 {
     match stage {
         Stage::Fresh(_) => Reply::HeaderError(own),
-        Stage::Started => Reply::Only(Outgoing::Message(OwnMessage::Error)),
-        Stage::Up(_, _) => Reply::Only(Outgoing::Message(OwnMessage::Error)),
+        Stage::Started => Reply::Only(Outgoing::Message(Message::Error { length: 0 })),
+        Stage::Up(_, _) => Reply::Only(Outgoing::Message(Message::Error { length: 0 })),
     }
 }
 

@@ -6,7 +6,6 @@ use connection::Cause;
 use connection::ended;
 use connection::with_ping;
 use connection_output::Outgoing;
-use own_messages::OwnMessage;
 use refusal::Violation;
 use state::Connection;
 use state::Ping;
@@ -50,7 +49,7 @@ pub(crate) fn judge_whole(c: Connection, m: Message) -> Judged
             taken(next, m, false, Outgoing::Nothing)
         }
         Message::Ping { cookie } => {
-            let ack = OwnMessage::PingAck(cookie);
+            let ack = Message::PingAck { cookie };
             taken(c, m, false, Outgoing::Message(ack))
         }
         Message::PingAck { cookie } => judge_ping_ack(c, cookie),

@@ -6,7 +6,8 @@ use Prim.Native.Nat.{ℕ}
 use lib.ListN.{length}
 use Rattle.state.specs.declared.Connection.{Connection}
 use Rattle.protocol.specs.Judge.{Decision, refuse, violate, accept}
-use Rattle.protocol.specs.Result.{Given, given, writtenBy, over, startCall, openCall, putCall, finishCall, turnCall, grantCall, abortCall, closeCall, pingCall, shutdownCall, lostCall, receiveCall}
+use Rattle.laws.specs.Room.{overlaid}
+use Rattle.protocol.specs.Result.{Given, given, writtenBy, startCall, openCall, putCall, finishCall, turnCall, grantCall, abortCall, closeCall, pingCall, shutdownCall, lostCall, receiveCall}
 use Rattle.history.specs.Log.{Call, start, open-session, put, finish, turn, grant, abort, close, shutdown, lost, receive, roomOf, State, decide, payloadOf, next, out}
 use Rattle.history.specs.Log as log
 
@@ -21,7 +22,7 @@ pub record Gives (s : State) (k : Call) (g : Given) : Type 0 where
 
 -- the room after a call: what the history says that it wrote, then the room as lent
 abbrev pub roomAfter : State → Call → List ℕ
-roomAfter s k = over (out s k .wrote) (roomOf k)
+roomAfter s k = overlaid (out s k .wrote) (roomOf k)
 
 wrote-is : (c : Connection) (payload : List ℕ) (d : Decision) → given c payload d .wrote ≡ length (writtenBy payload d)
 wrote-is c payload (refuse n) = refl

@@ -15,7 +15,8 @@ use Rattle.state.specs.declared.Stage.the-variants as stage
 use Rattle.protocol.specs.Plan.{Plan, settle}
 use Rattle.protocol.specs.Connection.{Cause, shutdown-received, error-received, own-shutdown, line-lost, at, wellFormed, ending, ended}
 use Rattle.protocol.specs.Judge.{Report, done, served, header, message, Effect, Breach, Decision, refuse, violate, accept, errorAfter}
-use Rattle.protocol.specs.Result.{bytesOfAll, over, usedBy, startOf, endOf}
+use Rattle.laws.specs.Room.{overlaid}
+use Rattle.protocol.specs.Result.{bytesOfAll, usedBy, startOf, endOf}
 use Rattle.history.specs.Log.{Call, start, open-session, put, finish, turn, grant, abort, close, shutdown, lost, receive, roomOf, State, decide, payloadOf, nextBy, outBy, next, out}
 use Rattle.history.specs.Log as log
 use Rattle.protocol.proofs.Plans.{settled, stops-all, takes-all}
@@ -106,7 +107,7 @@ no-payload q (receive input room) b = refl
 module _ (s : State) (k : Call) where
   -- what a refusal leaves, by its number
   refusal-by : (d : Decision) → Below d → (n : ℕ) → outBy s k d .answer ≡ refused n
-      → (n < 20) × (nextBy s k d ≡ s) × (outBy s k d .wrote ≡ []) × (over (outBy s k d .wrote) (roomOf k) ≡ roomOf k)
+      → (n < 20) × (nextBy s k d ≡ s) × (outBy s k d .wrote ≡ []) × (overlaid (outBy s k d .wrote) (roomOf k) ≡ roomOf k)
   refusal-by (refuse j) h n e = (
     subst (λ (m : ℕ). m < 20) (refused-same e) h,
     ap (λ (q : List ℕ). record { connection = s .connection; queue = q }) (queue-refused (s .connection) (s .queue) k j),

@@ -30,7 +30,7 @@ use Rattle.protocol.specs.Message.{numbered, Scope, whole, of-session, scope}
 use Rattle.protocol.specs.Connection.{at}
 use Rattle.protocol.specs.Judge.{Report, done, served, header, message, Out}
 use Rattle.protocol.specs.Call.{otherEnd}
-use Rattle.protocol.specs.Result.{over}
+use Rattle.laws.specs.Room.{overlaid}
 use Rattle.protocol.specs.Observed.{Pinging, greeted, awaits, Sending, silent, sending, isReady, anyLapse, ends, established, dueData, lateFor, mayArrive, wrongNumber}
 use Rattle.protocol.specs.Fate.{fateOf}
 use Rattle.protocol.specs.Totals.{blankLedger, Balanced, Covers}
@@ -190,7 +190,7 @@ takesInput (violation n) = false
 pub record RefusedLeaves (s : State) (k : Call) : Type 0 where
   -- below 20 nothing changes and nothing is written, so that the room stays as lent
   pub refusal : (n : ℕ) → out s k .answer ≡ refused n
-      → (n < 20) × (next s k ≡ s) × (out s k .wrote ≡ []) × (over (out s k .wrote) (roomOf k) ≡ roomOf k)
+      → (n < 20) × (next s k ≡ s) × (out s k .wrote ≡ []) × (overlaid (out s k .wrote) (roomOf k) ≡ roomOf k)
   -- from 20 up only over and outcomes change, and Error, or header and Error, is written
   pub violated : (n : ℕ) → out s k .answer ≡ violation n
       → (20 ≤ n) × OnlyOver (s .connection) (next s k .connection) × (next s k .queue ≡ s .queue)

@@ -1,10 +1,10 @@
--- Laws on lists beyond the library's: bytes, the elements of a part by name, and copies over the front of a list.
+-- Laws on lists beyond the library's: bytes, the elements of a part by name, and a part of a part.
 use mathlib.Core.Path.{_≡_, refl, ap, _∙_}
-use mathlib.Core.List.{List, [], _∷_, _++_}
+use mathlib.Core.List.{List, [], _∷_}
 use Prim.Native.Nat.{ℕ, zero, suc, _+_, _-_, _≤_, _<_}
 use native.Mathlib.Omega.{arith}
 use lib.ListN.{length, getD, take, drop}
-use lib.Seq.{take-nil, drop-cons, take-append-seam, drop-append-add, drop-drop}
+use lib.Seq.{take-nil, drop-cons}
 
 -- each element is a byte
 abbrev pub Bytes : List ℕ → Type 0
@@ -24,13 +24,6 @@ take-elements zero i s h = refl
 take-elements (suc k) i s h =
     ap (take (suc k)) (drop-cons s i 0 (omega arith))
     ∙ ap (λ (l : List ℕ). getD s i 0 ∷ l) (take-elements k (suc i) s (omega arith))
-
--- a list copied over the front of a room, and another one behind it
-pub two-copies : (first second room : List ℕ) {mid last : List ℕ} → mid ≡ first ++ drop (length first) room
-    → last ≡ take (length first) mid ++ second ++ drop (length first + length second) mid
-    → last ≡ first ++ second ++ drop (length first + length second) room
-two-copies first second room p q =
-    rw (q, p, take-append-seam, drop-append-add) (ap (λ (l : List ℕ). first ++ second ++ l) (drop-drop (length second) (length first) room))
 
 pub take-drop : (w n : ℕ) (s : List ℕ) → n ≤ w → take (w - n) (drop n s) ≡ drop n (take w s)
 take-drop w zero s h = let e : w - 0 ≡ w = omega arith in ap (λ (k : ℕ). take k s) e

@@ -1,5 +1,6 @@
 -- The definitions that several crates share.
 pub mod Pick
 pub mod Result
+pub mod Room
 pub mod Circle
 pub mod Runs

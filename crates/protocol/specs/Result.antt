@@ -2,8 +2,9 @@
 use Prim.Native.Nat.{ℕ, _+_, _-_}
 use mathlib.Core.Bool.{Bool}
 use mathlib.Core.List.{List, [], _∷_, _++_}
-use lib.ListN.{length, take, drop}
+use lib.ListN.{length, take}
 use Rattle.laws.specs.Result.{Result, ok, refused, violation}
+use Rattle.laws.specs.Room.{overlaid}
 use Rattle.refusal.specs.Number.{refusalNumber, violationNumber}
 use Rattle.wire.specs.declared.Message.{Message}
 use Rattle.wire.specs.Message as wire
@@ -15,7 +16,7 @@ use Rattle.state.specs.declared.Answer.the-variants as answer
 use Rattle.state.specs.declared.Called.{Called}
 use Rattle.protocol.specs.Plan.{Plan, settle}
 use Rattle.protocol.specs.Connection.{at, ended}
-use Rattle.protocol.specs.Judge.{Report, done, served, header, message, Out, opening, sent, Effect, Decision, refuse, violate, accept, commit}
+use Rattle.protocol.specs.Judge.{Report, done, served, header, message, Out, own-header, sent, Effect, Decision, refuse, violate, accept, commit}
 use Rattle.protocol.specs.Queue.{slot, withSlot, putSlot, turnSlot}
 use Rattle.protocol.specs.Call.{startRule, openRule, putRule, finishRule, turnRule, grantRule, abortRule, closeRule, pingRule, shutdownRule, lostRule, receiveRule}
 
@@ -74,7 +75,7 @@ endOf (message m late) = 4 + bodyLength m
 
 -- the bytes of what is written; `payload` holds those that follow a Data header
 abbrev pub bytesOf : List ℕ → Out → List ℕ
-bytesOf payload (opening n) = connectionHeader n
+bytesOf payload (own-header n) = connectionHeader n
 bytesOf payload (sent m) = wire.header m ++ take (bodyLength m) payload
 
 unfoldable pub bytesOfAll : List ℕ → List Out → List ℕ
@@ -85,10 +86,6 @@ abbrev pub writtenBy : List ℕ → Decision → List ℕ
 writtenBy payload (refuse n) = []
 writtenBy payload (violate b) = bytesOfAll payload (b .reply)
 writtenBy payload (accept e) = bytesOfAll payload (e .outs)
-
--- room past what was written stays as lent
-abbrev pub over : List ℕ → List ℕ → List ℕ
-over bytes room = bytes ++ drop (length bytes) room
 
 -- ---- what a decision gives
 
@@ -126,7 +123,7 @@ decided p = settle refuse accept p
 -- ---- the calls
 
 abbrev pub inRoom : Connection → List ℕ → Decision → Given × List ℕ
-inRoom c room d = (given c [] d, over (writtenBy [] d) room)
+inRoom c room d = (given c [] d, overlaid (writtenBy [] d) room)
 
 unfoldable pub startCall : Connection → List ℕ → Given × List ℕ
 startCall c room = inRoom c room (decided (startRule c (length room)))
@@ -156,7 +153,7 @@ unfoldable pub turnCall : Connection → List ℕ → List ℕ → Given × List
 turnCall c queue room =
     let d = decided (turnRule c (length queue) (length room)) in
     let payload = turnPayload queue d in
-    (given c payload d, ifTaken d (turned c queue) queue, over (writtenBy payload d) room)
+    (given c payload d, ifTaken d (turned c queue) queue, overlaid (writtenBy payload d) room)
 
 unfoldable pub grantCall : Connection → ℕ → ℕ → List ℕ → Given × List ℕ
 grantCall c n amount room = inRoom c room (decided (grantRule c n amount (length room)))

@@ -12,8 +12,8 @@ use Rattle.wire.specs.declared.Message.the-variants.{IncrementRation}
 use Rattle.wire.specs.Message.{effectiveIncrement, readMessage}
 use Rattle.wire.proofs.Laws.{message-parsed}
 
-twice-shift : (t : ℕ) → t < 8 → 2 * (t % 8) ≡ bitAnd (0x10 + t * 2) 0x0E
-twice-shift = below-number (λ t. 2 * (t % 8)) (λ t. bitAnd (0x10 + t * 2) 0x0E) 8 tt
+twice-shift : (t : ℕ) → t < 8 → 2 * (t % 8) ≡ bitAnd (0x10 + t % 8 * 2) 0x0E
+twice-shift = below-number (λ t. 2 * (t % 8)) (λ t. bitAnd (0x10 + t % 8 * 2) 0x0E) 8 tt
 
 pub effective-by-first-byte : (from : Role) (s : List ℕ) (t i n : ℕ) → Bytes s → readMessage from s ≡ ok (IncrementRation t i n)
     → effectiveIncrement t n ≡ n * 2 ^ bitAnd (getD s 0 0) 0x0E

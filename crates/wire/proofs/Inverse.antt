@@ -4,7 +4,7 @@ use mathlib.Core.Path.{_≡_, refl, sym, ap, _∙_, subst}
 use mathlib.Core.Bool.{Bool, true, false, _&&_}
 use mathlib.Core.List.{[], _∷_}
 use Prim.Native.Nat.{ℕ, _+_, _*_, _/_, _%_, _<_, _≤_}
-use native.Mathlib.Nat.{mod-eq-of-lt}
+use native.Mathlib.Nat.{mod-eq-of-lt, mod-lt}
 use native.Mathlib.Omega.{arith}
 use lib.Dec.{T, eqb, ltb, eqb→eq}
 use borrow.Author.Tests.{ltb-true, eqb-true, lt-ltb}
@@ -34,24 +34,24 @@ weight-most : (w : ℕ) (b : Bool) → weight w b ≤ w
 weight-most w true = omega arith
 weight-most w false = omega arith
 
-pub first-byte : (m : Message) → shiftOf m < 8 → firstByte m < 256
-first-byte (NoOperation n) s = omega arith
-first-byte (Shutdown n) s = omega arith
-first-byte (Ping n) s = omega arith
-first-byte (PingAck n) s = omega arith
-first-byte (Error n) s = omega arith
-first-byte (IncrementRation t i n) s = omega arith
-first-byte (Abort p i n) s = omega (arith, weight-most 2 p)
-first-byte (Close i) s = omega arith
-first-byte (Acknowledgment i) s = omega arith
-first-byte (Data o c e k i n) s = omega (arith, weight-most 16 o, weight-most 8 c, weight-most 4 e, weight-most 2 k)
+pub first-byte : (m : Message) → firstByte m < 256
+first-byte (NoOperation n) = omega arith
+first-byte (Shutdown n) = omega arith
+first-byte (Ping n) = omega arith
+first-byte (PingAck n) = omega arith
+first-byte (Error n) = omega arith
+first-byte (IncrementRation t i n) = omega arith
+first-byte (Abort p i n) = omega (arith, weight-most 2 p)
+first-byte (Close i) = omega arith
+first-byte (Acknowledgment i) = omega arith
+first-byte (Data o c e k i n) = omega (arith, weight-most 16 o, weight-most 8 c, weight-most 4 e, weight-most 2 k)
 
 shift-test : ℕ → Bool
 shift-test t = eqb (code kind.IncrementRation) (codeOf (kindOf (0x10 + t * 2))) && eqb ((0x10 + t * 2) / 2 % 8) t
 
-shift-known : (t : ℕ) → t < 8 → T (eqb (code kind.IncrementRation) (codeOf (kindOf (0x10 + t * 2))) && eqb ((0x10 + t * 2) / 2 % 8) t)
+shift-known : (t : ℕ) → T (eqb (code kind.IncrementRation) (codeOf (kindOf (0x10 + t % 8 * 2))) && eqb ((0x10 + t % 8 * 2) / 2 % 8) (t % 8))
 unfolding shift-test kindOf
-shift-known t h = below shift-test 8 tt t h
+shift-known t = below shift-test 8 tt (t % 8) (mod-lt t (omega arith))
 
 flags-back : (o c e k : Bool) (i n : ℕ)
     → (kindOf (firstByte (Data o c e k i n)) ≡ Known kind.Data) × (decoded kind.Data (firstByte (Data o c e k i n)) i n ≡ Data o c e k (i % 128) n)
@@ -79,19 +79,19 @@ unfolding kindOf
 partial-back true i n = (refl, refl)
 partial-back false i n = (refl, refl)
 
-first-names : (m : Message) → shiftOf m < 8 → kindOf (firstByte m) ≡ Known (kindOfMessage m)
+first-names : (m : Message) → kindOf (firstByte m) ≡ Known (kindOfMessage m)
 unfolding kindOf
-first-names (NoOperation n) s = refl
-first-names (Shutdown n) s = refl
-first-names (Ping n) s = refl
-first-names (PingAck n) s = refl
-first-names (Error n) s = refl
-first-names (IncrementRation t i n) s =
-    sym (same (Known kind.IncrementRation) (kindOf (0x10 + t * 2)) (T-first (eqb (code kind.IncrementRation) (codeOf (kindOf (0x10 + t * 2)))) (eqb ((0x10 + t * 2) / 2 % 8) t) (shift-known t s)))
-first-names (Abort p i n) s = partial-back p i n .0
-first-names (Close i) s = refl
-first-names (Acknowledgment i) s = refl
-first-names (Data o c e k i n) s = flags-back o c e k i n .0
+first-names (NoOperation n) = refl
+first-names (Shutdown n) = refl
+first-names (Ping n) = refl
+first-names (PingAck n) = refl
+first-names (Error n) = refl
+first-names (IncrementRation t i n) =
+    sym (same (Known kind.IncrementRation) (kindOf (0x10 + t % 8 * 2)) (T-first (eqb (code kind.IncrementRation) (codeOf (kindOf (0x10 + t % 8 * 2)))) (eqb ((0x10 + t % 8 * 2) / 2 % 8) (t % 8)) (shift-known t)))
+first-names (Abort p i n) = partial-back p i n .0
+first-names (Close i) = refl
+first-names (Acknowledgment i) = refl
+first-names (Data o c e k i n) = flags-back o c e k i n .0
 
 decoded-back : (m : Message) → shiftOf m < 8 → secondByte m < 128 → decoded (kindOfMessage m) (firstByte m) (secondByte m) (numberOf m) ≡ m
 decoded-back (NoOperation n) s h = refl
@@ -100,7 +100,7 @@ decoded-back (Ping n) s h = refl
 decoded-back (PingAck n) s h = refl
 decoded-back (Error n) s h = refl
 decoded-back (IncrementRation t i n) s h =
-    rw (eqb→eq ((0x10 + t * 2) / 2 % 8) t (T-second (eqb (code kind.IncrementRation) (codeOf (kindOf (0x10 + t * 2)))) (eqb ((0x10 + t * 2) / 2 % 8) t) (shift-known t s)), mod-eq-of-lt h)
+    rw (eqb→eq ((0x10 + t % 8 * 2) / 2 % 8) (t % 8) (T-second (eqb (code kind.IncrementRation) (codeOf (kindOf (0x10 + t % 8 * 2)))) (eqb ((0x10 + t % 8 * 2) / 2 % 8) (t % 8)) (shift-known t)), mod-eq-of-lt h, mod-eq-of-lt s)
 decoded-back (Abort p i n) s h = partial-back p i n .1 ∙ rw (mod-eq-of-lt h)
 decoded-back (Close i) s h = ap Close (mod-eq-of-lt h)
 decoded-back (Acknowledgment i) s h = ap Acknowledgment (mod-eq-of-lt h)
@@ -129,12 +129,12 @@ header-reads from m s i n p q =
     let hb : secondByte m < 256 = omega arith in
     let hc : numberOf m / 256 < 256 = omega arith in
     let hd : numberOf m % 256 < 256 = omega arith in
-    let named = first-names m s in
+    let named = first-names m in
     sym
     (header-clear from a b c d named
-    (sym (fixed-clear a b c d hb hc hd (first-byte m s) (kindOfMessage m) (kindOfMessage m) refl named) ∙ clear-back m i)
+    (sym (fixed-clear a b c d hb hc hd (first-byte m) (kindOfMessage m) (kindOfMessage m) refl named) ∙ clear-back m i)
     (sym (decoded-back m s i)
-    ∙ message-decoded a b c d (first-byte m s) hb hc hd (kindOfMessage m) (kindOfMessage m) (numberOf m) refl (sym (joined (numberOf m))))
+    ∙ message-decoded a b c d (first-byte m) hb hc hd (kindOfMessage m) (kindOfMessage m) (numberOf m) refl (sym (joined (numberOf m))))
     (allowed-ok from (kindOfMessage m) m p q))
 
 -- ---- a message that is read has the header that it is read from

@@ -146,7 +146,7 @@ module _ (from : Role) (m : Message) (body : List ℕ) where
       record {
         bytes = header m ++ body;
         each =
-            bytes-cons (firstByte m) (secondByte m ∷ c ∷ d ∷ body) (first-byte m (h .shift))
+            bytes-cons (firstByte m) (secondByte m ∷ c ∷ d ∷ body) (first-byte m)
             (bytes-cons (secondByte m) (c ∷ d ∷ body) second (bytes-cons c (d ∷ body) third (bytes-cons d body fourth bs)));
         reads = ap (λ (l : List ℕ). readMessage from (header m ++ l)) (sym (append-nil body)) ∙ read-written from m body n w [];
         whole = length-append (header m) body ∙ ap (λ (k : ℕ). 4 + k) (sym b);

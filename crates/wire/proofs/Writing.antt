@@ -1,18 +1,21 @@
 -- The writers' definitions, one law for each way through their checks; callers cite these.
 use mathlib.Core.Path.{_≡_, ap, sym, _∙_}
 use mathlib.Core.Bool.{Bool, true, false, _&&_}
-use mathlib.Core.List.{List, [], _∷_, _++_}
-use Prim.Native.Nat.{ℕ, _+_, _/_, _%_, _≤_, _<_}
-use lib.ListN.{length, drop}
-use lib.Dec.{ltb, eqb}
+use mathlib.Core.List.{List, _++_}
+use Prim.Native.Nat.{ℕ, _+_, _≤_, _<_}
+use native.Mathlib.Omega.{arith}
+use lib.ListN.{length, drop, length-append}
+use lib.Dec.{ltb, leb, eqb}
 use borrow.Author.Tests.{le-leb, lt-leb, ltb-true, eqb-true}
-use Rattle.laws.specs.Result.{ok, refused}
+use Rattle.laws.specs.Pick.{pick}
+use Rattle.laws.specs.Result.{Result, ok, refused}
+use Rattle.laws.specs.Room.{atFront}
 use Rattle.laws.proofs.Pick.{yes, no}
 use Rattle.laws.proofs.Tests.{and-first, and-second}
 use Rattle.wire.specs.declared.Role.{Role}
 use Rattle.wire.specs.declared.Kind.{Kind}
 use Rattle.wire.specs.declared.Message.{Message}
-use Rattle.wire.specs.Message.{maySend, flagsAllowed, kindOfMessage, bodyLength, firstByte, secondByte, numberOf, shiftOf, header, writable, writeMessage}
+use Rattle.wire.specs.Message.{maySend, flagsAllowed, kindOfMessage, bodyLength, secondByte, shiftOf, header, writable, writeMessage}
 use Rattle.wire.specs.Connection.{connectionHeader, writeConnectionHeader}
 
 -- what a message that may be written has
@@ -49,22 +52,34 @@ pub writable-is : (from : Role) (m : Message) (len : ℕ) {s i n : ℕ} {k : Kin
 unfolding writable
 writable-is from m len p q e a b r = rw (p, q, a, e, b, r)
 
-header-same : {a b n : ℕ} (m : Message) → a ≡ firstByte m → b ≡ secondByte m → n ≡ numberOf m → a ∷ b ∷ n / 256 ∷ n % 256 ∷ [] ≡ header m
-header-same m p q r = rw (p, q, r)
+module _ (k : ℕ) (x room : List ℕ) {n : ℕ} {last : List ℕ} where
+  wrote : (b : Bool) → _≡_ {A = ℕ × List ℕ} (n, last) (pick b (k, x) (0, room)) → 0 < n
+      → _≡_ {A = Result ℕ × List ℕ} (ok n, last) (pick b (ok k, x) (refused 8, room))
+  unfolding pick
+  wrote true e h = ap (λ (p : ℕ × List ℕ). (ok (p .0), p .1)) e
+  wrote false e h = let z : n ≡ 0 = ap (λ (p : ℕ × List ℕ). p .0) e in absurd (omega arith)
+
+  wrote-none : (b : Bool) → _≡_ {A = ℕ × List ℕ} (n, last) (pick b (k, x) (0, room)) → 0 < k → n ≤ 0
+      → _≡_ {A = Result ℕ × List ℕ} (refused 8, last) (pick b (ok k, x) (refused 8, room))
+  unfolding pick
+  wrote-none true e positive h = let z : n ≡ k = ap (λ (p : ℕ × List ℕ). p .0) e in absurd (omega arith)
+  wrote-none false e positive h = ap (λ (p : ℕ × List ℕ). (refused 8, p .1)) e
 
 module _ (from : Role) (m : Message) (body room : List ℕ) where
-  pub write-ok : {a b n : ℕ} {last : List ℕ} → writable from m (length body) ≡ true → 4 + length body ≤ length room
-      → a ≡ firstByte m → b ≡ secondByte m → n ≡ numberOf m → last ≡ (a ∷ b ∷ n / 256 ∷ n % 256 ∷ []) ++ body ++ drop (4 + length body) room
-      → (ok (4 + length body), last) ≡ writeMessage from m body room
-  unfolding writeMessage
-  write-ok w h p q r e =
-      ap (λ (l : List ℕ). (ok (4 + length body), l))
-      (e ∙ ap (λ (l : List ℕ). l ++ body ++ drop (4 + length body) room) (header-same m p q r))
-      ∙ sym (yes _ _ _ w ∙ yes _ _ _ (le-leb _ _ h))
+  at-front : atFront (header m ++ body) room ≡ pick (leb (4 + length body) (length room)) (4 + length body, header m ++ body ++ drop (4 + length body) room) (0, room)
+  unfolding atFront
+  at-front = let p : length (header m ++ body) ≡ 4 + length body = length-append (header m) body in cc
 
-  pub write-no-room : writable from m (length body) ≡ true → length room < 4 + length body → (refused 8, room) ≡ writeMessage from m body room
+  -- the header and the body at the front of a room, as many bytes as were put there; none were where the room is too small
+  pub put-wrote : {n : ℕ} {last : List ℕ} → writable from m (length body) ≡ true → (n, last) ≡ atFront (header m ++ body) room → 0 < n
+      → (ok n, last) ≡ writeMessage from m body room
   unfolding writeMessage
-  write-no-room w h = sym (yes _ _ _ w ∙ no _ _ _ (lt-leb _ _ h))
+  put-wrote w e h = wrote (4 + length body) _ room (leb (4 + length body) (length room)) (e ∙ at-front) h ∙ sym (yes _ _ _ w)
+
+  pub put-none : {n : ℕ} {last : List ℕ} → writable from m (length body) ≡ true → (n, last) ≡ atFront (header m ++ body) room → n ≤ 0
+      → (refused 8, last) ≡ writeMessage from m body room
+  unfolding writeMessage
+  put-none w e h = wrote-none (4 + length body) _ room (leb (4 + length body) (length room)) (e ∙ at-front) (omega arith) h ∙ sym (yes _ _ _ w)
 
   pub write-refused : writable from m (length body) ≡ false → (refused 14, room) ≡ writeMessage from m body room
   unfolding writeMessage

@@ -108,13 +108,14 @@ abbrev pub weight : ℕ → Bool → ℕ
 weight w true = w
 weight w false = 0
 
+-- the row of the type with its items; a shift counts by its low three bits, as in the effective increment
 abbrev pub firstByte : Message → ℕ
 firstByte (NoOperation n) = 0x00
 firstByte (Shutdown n) = 0x02
 firstByte (Ping n) = 0x04
 firstByte (PingAck n) = 0x06
 firstByte (Error n) = 0x08
-firstByte (IncrementRation shift i n) = 0x10 + shift * 2
+firstByte (IncrementRation shift i n) = 0x10 + shift % 8 * 2
 firstByte (Abort partial i n) = 0x20 + weight 2 partial
 firstByte (Close i) = 0x30
 firstByte (Acknowledgment i) = 0x40

@@ -9,7 +9,7 @@ use Rattle.wire.specs.Message.{isServer}
 use Rattle.state.specs.declared.Stage.the-variants as stage
 use Rattle.protocol.specs.Plan.{take, check, settle}
 use Rattle.protocol.specs.Connection.{roleOf}
-use Rattle.protocol.specs.Judge.{done, opening, with-stage}
+use Rattle.protocol.specs.Judge.{done, own-header, with-stage}
 use Rattle.protocol.specs.Call.{running, roomFor, isFresh, startRule}
 use Rattle.protocol.specs.Result.{given, inRoom, startCall}
 use Rattle.call_checks.proofs.Checks.{one-more}
@@ -27,7 +27,7 @@ returns c =
     let a = flag .before .before .before .before .args in
     let x = a .c in
     let room = now (a .room) in
-    let e = with-stage x stage.Started done (opening (x .own) ∷ []) in
+    let e = with-stage x stage.Started done (own-header (x .own) ∷ []) in
     let p = running x (roomFor 8 (length room) (check (isServer (roleOf (x .stage))) 4 (check (not (isFresh (x .stage))) 5 (take tt)))) in
     let ens =
     one-more (running x (roomFor 8 (length room) (check (isServer (roleOf (x .stage))) 4 (take tt)))) (not (isFresh (x .stage))) 5 (more .further2 .ensures) (ap not (flag .is-fresh .ensures))
@@ -35,7 +35,7 @@ returns c =
     (flag .before .is-server .ensures ∙ ap isServer (flag .before .before .role-of .ensures)) (more .before .before .to-start .ensures)) in
     let told = gate .enum-told .given .1 in
     done-in (c .done .ensures)
-    (taken-in x e refl (c .before .with-stage .ensures ∙ sets-stage x done (opening (x .own) ∷ []) stage.Started) room (eight (x .own) room (roomy-running x 8 (length room) (check (isServer (roleOf (x .stage))) 4 (check (not (isFresh (x .stage))) 5 (take tt))) ens told)) (wrote .write .ensures))
+    (taken-in x e refl (c .before .with-stage .ensures ∙ sets-stage x done (own-header (x .own) ∷ []) stage.Started) room (eight (x .own) room (roomy-running x 8 (length room) (check (isServer (roleOf (x .stage))) 4 (check (not (isFresh (x .stage))) 5 (take tt))) ens told)) (wrote .write .ensures))
     ∙ ap (inRoom x room) (passed p ens (take e) told)
 
 returns-2 : tie.Need-returns-2
@@ -46,7 +46,7 @@ returns-2 c =
     let a = flag .before .before .before .before .args in
     let x = a .c in
     let room = now (a .room) in
-    let e = with-stage x stage.Started done (opening (x .own) ∷ []) in
+    let e = with-stage x stage.Started done (own-header (x .own) ∷ []) in
     let p = running x (roomFor 8 (length room) (check (isServer (roleOf (x .stage))) 4 (check (not (isFresh (x .stage))) 5 (take tt)))) in
     let ens =
     one-more (running x (roomFor 8 (length room) (check (isServer (roleOf (x .stage))) 4 (take tt)))) (not (isFresh (x .stage))) 5 (more .further2 .ensures) (ap not (flag .is-fresh .ensures))

@@ -1,7 +1,7 @@
 -- `header_of` meets its contract: each byte is what its call ensures.
 use borrow.Author.Needs.{needs}
-use Rattle.wire_write.proofs.messages.header_of.Statement.{statement}
-use Rattle.wire_write.proofs.messages.header_of.Tie as tie
+use Rattle.wire_write.proofs.headers.header_of.Statement.{statement}
+use Rattle.wire_write.proofs.headers.header_of.Tie as tie
 
 returns : tie.Need-returns
 returns c = rw (c .before .first-byte .ensures, c .second-byte .ensures, c .before .before .number-of .ensures)

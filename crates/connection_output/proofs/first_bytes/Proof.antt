@@ -6,8 +6,8 @@ use lib.ListN.{length}
 use lib.Seq.{length-take-le, take-all}
 use denote.Ref.{now}
 use borrow.Author.Needs.{needs}
-use Rattle.connection_output.proofs.front.first_bytes.Statement.{statement}
-use Rattle.connection_output.proofs.front.first_bytes.Tie as tie
+use Rattle.connection_output.proofs.first_bytes.Statement.{statement}
+use Rattle.connection_output.proofs.first_bytes.Tie as tie
 
 slice-aggregate-result : tie.Need-slice-aggregate-result
 slice-aggregate-result c = sym (length-take-le _ _ (c .before .if1 .taken))

@@ -1,16 +1,9 @@
 -- `first_byte` meets its contract: each arm is a case of `firstByte`.
 use mathlib.Core.Path.{sym, ap}
-use native.Mathlib.Omega.{arith}
 use Rattle.wire.specs.Message.{firstByte}
 use borrow.Author.Needs.{needs}
-use Rattle.wire_write.proofs.messages.first_byte.Statement.{statement}
-use Rattle.wire_write.proofs.messages.first_byte.Tie as tie
-
-mul-result : tie.Need-mul-result
-mul-result c = omega (arith, rw (c .before .m .given .1) at (c .before .before .before .pre))
-
-add-result : tie.Need-add-result
-add-result c = omega (arith, rw (c .before .m .given .1) at (c .before .before .before .pre))
+use Rattle.wire_write.proofs.headers.first_byte.Statement.{statement}
+use Rattle.wire_write.proofs.headers.first_byte.Tie as tie
 
 returns-6 : tie.Need-returns-6
 returns-6 c = sym (ap firstByte (c .before .m .given .1))
@@ -26,7 +19,7 @@ first-byte-spec =
     tie.close
     (tie.spec
     (λ c. search needs) (λ c. search needs) (λ c. search needs) (λ c. search needs) (λ c. search needs)
-    (λ c. search needs) mul-result add-result (λ c. search needs) (λ c κs. search needs) (λ c. search needs)
+    (λ c. search needs) (λ c. search needs) (λ c. search needs) (λ c. search needs) (λ c κs. search needs) (λ c. search needs)
     (λ c. search needs) (λ c. search needs) (λ c. search needs) (λ c κs. search needs) (λ c. search needs)
     (λ c κs. search needs) (λ c. search needs) (λ c κs. search needs) (λ c. search needs) (λ c κs. search needs)
     (λ c. search needs) (λ c. search needs) (λ c. search needs) (λ c. search needs) (λ c. search needs)

@@ -1,2 +1,0 @@
--- The definition of which messages one end writes.
-pub mod Own
