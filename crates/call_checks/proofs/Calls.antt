@@ -27,7 +27,7 @@ use Rattle.session.specs.Step.{toAsked}
 use Rattle.call_checks.specs.declared.Gate.{Gate}
 use Rattle.call_checks.specs.declared.Gate.the-variants as gate
 use Rattle.call_checks.specs.Gate.{gateAs, toGate, behind}
-use Rattle.connection.specs.Table.{withStage, withPing}
+use Rattle.state.specs.With.{withSessions, withStage, withPing}
 use Rattle.call_checks.proofs.Checks.{followedBy, gated}
 use Rattle.laws.proofs.Rooms.{fits}
 use Rattle.connection_output.proofs.Rooms.{one-message}
@@ -117,17 +117,14 @@ refusing-in c room e = rw e
 -- ---- the connection after a call that sets one part of it
 
 module _ (c : Connection) (r : Report) (outs : List Out) where
-  abbrev rebuilt : List Session → Connection
-  rebuilt l = record { sessions = l; stage = c .stage; over = c .over; own = c .own; last = c .last; ping = c .ping }
+  pub sets-stage : (s : Stage) → withStage s c ≡ commit c (with-stage c s r outs)
+  sets-stage s = ap (λ (l : List Session). withStage s (withSessions l c)) (sym (set-getD (c .sessions) 0 blank))
 
-  pub sets-stage : (s : Stage) → withStage c s ≡ commit c (with-stage c s r outs)
-  sets-stage s = ap (λ (l : List Session). withStage (rebuilt l) s) (sym (set-getD (c .sessions) 0 blank))
-
-  pub sets-ping : (p : Ping) → withPing c p ≡ commit c (with-ping c p r outs)
-  sets-ping p = ap (λ (l : List Session). withPing (rebuilt l) p) (sym (set-getD (c .sessions) 0 blank))
+  pub sets-ping : (p : Ping) → withPing p c ≡ commit c (with-ping c p r outs)
+  sets-ping p = ap (λ (l : List Session). withPing p (withSessions l c)) (sym (set-getD (c .sessions) 0 blank))
 
   pub sets-end : (cause : Cause) → ended cause c ≡ commit c (ends-by c cause r outs)
-  sets-end cause = ap (λ (l : List Session). ended cause (rebuilt l)) (sym (set-getD (c .sessions) 0 blank))
+  sets-end cause = ap (λ (l : List Session). ended cause (withSessions l c)) (sym (set-getD (c .sessions) 0 blank))
 
 -- ---- how many bytes are written
 

@@ -28,7 +28,7 @@ use Rattle.session.specs.declared.Taken.{Taken}
 use Rattle.session.specs.declared.Asked.{Asked}
 use Rattle.session.specs.declared.Asked.the-variants as asked
 use Rattle.session.specs.Step.{sentAs, takenAs, askedAs, toAsked}
-use Rattle.connection.specs.Table.{withSession}
+use Rattle.state.specs.With.{withSession}
 use Rattle.laws.specs.Room.{atFront}
 use Rattle.call_checks.specs.Asking.{Quiet, decision}
 use Rattle.call_checks.proofs.Calls.{giving, taken, taken-in, refusing-in, four, none}
@@ -72,7 +72,7 @@ module _ (c : Connection) (n : ℕ) {x : Asked} {res : Given} where
   pub step-refused : {r : Refusal} → x ≡ asked.Refused r → res ≡ given c [] (refuse (refusalNumber r)) → res ≡ given c [] (decision (with-session c n (c .last) done) (askedAs x))
   step-refused e g = rw e g
 
-  pub step-taken : {t : Taken} {next : Connection} → x ≡ asked.Taken t → Quiet (askedAs x) → next ≡ withSession c n (t .session)
+  pub step-taken : {t : Taken} {next : Connection} → x ≡ asked.Taken t → Quiet (askedAs x) → next ≡ withSession n (t .session) c
       → res ≡ giving next 0 → res ≡ given c [] (decision (with-session c n (c .last) done) (askedAs x))
   step-taken {t} e q w g =
       let still : sentAs (t .sent) ≡ [] = rw e at q in
@@ -83,7 +83,7 @@ module _ (c : Connection) (n : ℕ) {x : Asked} {res : Given} where
   step-refused-in room e g = rw e (refusing-in c room g)
 
   pub step-taken-in : (room : List ℕ) {t : Taken} {next : Connection} {wrote : ℕ} {last : List ℕ} {outs : List Out} → 4 ≤ length room
-      → x ≡ asked.Taken t → next ≡ withSession c n (t .session) → outs ≡ map (λ m. sent (numbered n m)) (sentAs (t .sent))
+      → x ≡ asked.Taken t → next ≡ withSession n (t .session) c → outs ≡ map (λ m. sent (numbered n m)) (sentAs (t .sent))
       → (wrote, last) ≡ atFront (bytesOfAll [] outs) room → res ≡ giving next wrote → (res, last) ≡ inRoom c room (decision (with-session c n (c .last) done) (askedAs x))
   step-taken-in room {t} h e w o k g =
       rw (e, g)

@@ -6,8 +6,6 @@ use call_checks::refused;
 use call_checks::to_start;
 use call_checks::to_write;
 use connection::role_of;
-use connection::with_ping;
-use connection::with_stage;
 use connection_output::Outgoing;
 use connection_output::write;
 use refusal::Refusal;
@@ -44,7 +42,7 @@ pub fn start(c: Connection, room: &mut [u8]) -> Called
     match gate {
         Gate::Passed => {
             let wrote = write(Outgoing::Header(c.own), room);
-            done(with_stage(c, Stage::Started), wrote)
+            done(c.with_stage(Stage::Started), wrote)
         }
         Gate::Refused(refusal) => refused(c, refusal),
     }
@@ -73,7 +71,7 @@ pub fn ping(c: Connection, cookie: u16, room: &mut [u8]) -> Called
     match gate {
         Gate::Passed => {
             let wrote = write(Outgoing::Message(Message::Ping { cookie }), room);
-            done(with_ping(c, Ping::Outstanding(cookie)), wrote)
+            done(c.with_ping(Ping::Outstanding(cookie)), wrote)
         }
         Gate::Refused(refusal) => refused(c, refusal),
     }

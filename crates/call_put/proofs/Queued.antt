@@ -24,7 +24,7 @@ use Rattle.session.specs.declared.Taken.{Taken}
 use Rattle.session.specs.declared.Asked.{Asked}
 use Rattle.session.specs.declared.Asked.the-variants as asked
 use Rattle.session.specs.Step.{askedAs}
-use Rattle.connection.specs.Table.{withSession}
+use Rattle.state.specs.With.{withSession}
 use Rattle.connection_check.proofs.Sessions.{waiting-fits}
 use Rattle.call_slots.specs.Slots.{servable, putInto}
 use Rattle.call_checks.specs.Asking.{Quiet, decision}
@@ -34,7 +34,7 @@ use Rattle.call_checks.proofs.Steps.{step-taken, step-refused}
 
 module _ (c : Connection) (n w : ℕ) (bytes queue : List ℕ) {x : Asked} {res : Given} where
   -- a put that its session takes
-  pub put-taken : {t : Taken} {next : Connection} {last : List ℕ} → x ≡ asked.Taken t → Quiet (askedAs x) → next ≡ withSession c n (t .session)
+  pub put-taken : {t : Taken} {next : Connection} {last : List ℕ} → x ≡ asked.Taken t → Quiet (askedAs x) → next ≡ withSession n (t .session) c
       → last ≡ putInto queue n w bytes → res ≡ giving next 0
       → (res, last) ≡ putting c n w bytes queue (decision (with-session c n (c .last) done) (askedAs x))
   put-taken e q s l g = rw (l, step-taken c n e q s g, e)

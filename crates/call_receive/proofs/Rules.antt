@@ -22,7 +22,7 @@ use Rattle.protocol.specs.Result.{Given, given, bytesOfAll, inRoom, receiveCall
 use Rattle.call_checks.specs.declared.Gate.{Gate}
 use Rattle.call_checks.specs.declared.Gate.the-variants as gate
 use Rattle.call_checks.specs.Gate.{gateAs, toGate, behind}
-use Rattle.connection.specs.Table.{withStage}
+use Rattle.state.specs.With.{withStage}
 use Rattle.call_checks.proofs.Calls.{next-check, refusing-in, sets-stage}
 use Rattle.connection_judge.specs.Verdict.{Verdict, verdict}
 use Rattle.call_receive.specs.Concluded.{concluded}
@@ -31,7 +31,7 @@ use Rattle.call_receive.specs.Concluded.{concluded}
 
 -- a good connection header
 pub header-taken : (c : Connection) (r : Role) {h : ReadHeader} {far : ℕ} {next : Connection} {outs : List Out} → h ≡ read-header.Number far
-    → next ≡ withStage c (stage.Up r far) → outs ≡ answering r (c .own)
+    → next ≡ withStage (stage.Up r far) c → outs ≡ answering r (c .own)
     → record { connection = next; answer = ok (header far); outs = outs } ≡ verdict c (headerTaken c r (headerReadAs h))
 header-taken c r {h} {far} e q o = rw (e, q ∙ sets-stage c (header far) (answering r (c .own)) (stage.Up r far), o)
 

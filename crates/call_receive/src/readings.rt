@@ -1,5 +1,4 @@
 // What stands first in the input, as what the receive comes to: a connection header first, then messages.
-use connection::with_stage;
 use connection_judge::Judged;
 use connection_judge::Reply;
 use connection_judge::judge;
@@ -38,7 +37,7 @@ fn take_header(c: Connection, role: Role, header: ReadHeader) -> Judged
     match header {
         ReadHeader::Number(far) => {
             let reply = answering(role, c.own);
-            let next = with_stage(c, Stage::Up(role, far));
+            let next = c.with_stage(Stage::Up(role, far));
             Judged {
                 connection: next,
                 answer: Answer::Header(far),

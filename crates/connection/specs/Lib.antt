@@ -1,3 +1,2 @@
--- The definitions of a connection with one part set, and of the causes of its end.
-pub mod Table
+-- The definition of what a cause of a connection's end means.
 pub mod Cause

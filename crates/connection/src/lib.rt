@@ -9,9 +9,7 @@ pub use stages::far_start;
 pub use stages::own_start;
 pub use stages::role_of;
 pub use table::session_at;
-pub use table::with_ping;
 pub use table::with_session;
-pub use table::with_stage;
 
 // What ends a connection.
 pub enum Cause {

@@ -22,7 +22,7 @@ use Rattle.session.specs.Step.{sentAs}
 use Rattle.session_receive.specs.declared.Receipt.{Receipt}
 use Rattle.session_receive.specs.declared.Receipt.the-variants as receipt
 use Rattle.session_receive.specs.Receipt.{receiptAs, toReceipt}
-use Rattle.connection.specs.Table.{withSession, withPing}
+use Rattle.state.specs.With.{withSessions, withSession, withPing}
 use lib.Seq.{set-getD}
 use Rattle.call_checks.proofs.Calls.{sets-ping, sets-end}
 use Rattle.connection_judge.specs.Verdict.{Verdict, verdict}
@@ -35,7 +35,7 @@ took next m late outs = record { connection = next; answer = ok (message m late)
 module _ (c : Connection) where
   sets-nothing : (r : Report) (outs : List Out) → c ≡ commit c (unchanged c r outs)
   sets-nothing r outs =
-      ap (λ (l : List Session). record { sessions = l; stage = c .stage; over = c .over; own = c .own; last = c .last; ping = c .ping })
+      ap (λ (l : List Session). withSessions l c)
       (sym (set-getD (c .sessions) 0 blank))
 
   -- ---- messages of the connection as a whole
@@ -79,7 +79,7 @@ module _ (c : Connection) where
     by-match e = sym (ap (λ (t : Bool). verdict c (settle (breach c) accept (check (not t) 28 (take answered)))) e)
 
     module _ {v : Verdict} where
-      pub acknowledged : {next : Connection} → matches (c .ping) k ≡ true → next ≡ withPing c ping.None
+      pub acknowledged : {next : Connection} → matches (c .ping) k ≡ true → next ≡ withPing ping.None c
           → v ≡ took next (msg.PingAck k) false [] → v ≡ verdict c (judgeScope c (msg.PingAck k) whole)
       unfolding settle answered
       acknowledged e q h =
@@ -112,7 +112,7 @@ module _ (c : Connection) where
           ∙ ap (verdict c) (by-receipt (rule.receipt (roleOf (c .stage)) (ownStart c) (farStart c) (at c n) s))
 
       pub step-taken : {r : Receipt} {t : Taken} {next : Connection} {outs : List Out} → r ≡ receipt.Taken t
-          → next ≡ withSession c n (t .session) → outs ≡ map (λ k. sent (numbered n k)) (sentAs (t .sent))
+          → next ≡ withSession n (t .session) c → outs ≡ map (λ k. sent (numbered n k)) (sentAs (t .sent))
           → v ≡ took next m (t .late) outs
           → v ≡ verdict c (judgedBy c m n (receiptAs r))
       step-taken e w o h = rw e (h ∙ rw (w, o))

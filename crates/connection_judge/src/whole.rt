@@ -4,7 +4,6 @@ use crate::verdicts::taken;
 use crate::verdicts::violated;
 use connection::Cause;
 use connection::ended;
-use connection::with_ping;
 use connection_output::Outgoing;
 use refusal::Violation;
 use state::Connection;
@@ -32,7 +31,7 @@ fn judge_ping_ack(c: Connection, cookie: u16) -> Judged
 {
     let ping = c.ping;
     if matches(ping, cookie) {
-        let next = with_ping(c, Ping::None);
+        let next = c.with_ping(Ping::None);
         return taken(next, Message::PingAck { cookie }, false, Outgoing::Nothing);
     }
     violated(c, Violation::UnaskedPingAck)

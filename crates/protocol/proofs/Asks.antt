@@ -25,7 +25,8 @@ use Rattle.protocol.specs.Slot.{slotSize}
 use Rattle.protocol.specs.Queue.{putSlot}
 use Rattle.state.specs.declared.Outcome.the-variants as outcome
 use Rattle.protocol.specs.Message.{increment-of, abort-of, close-of}
-use Rattle.protocol.specs.Session.{sided, dropped, settled}
+use Rattle.state.specs.With.{withSides}
+use Rattle.protocol.specs.Session.{dropped, settled}
 use Rattle.protocol.specs.Ask.{opened, openOf, openAsk, sends, putAsk, finishAsk, mayGrant, grantAsk, restored, aborting, abortOf, abortAsk, closeOf, closeAsk}
 use Rattle.laws.specs.Runs.{fold}
 use Rattle.protocol.specs.Observed
@@ -257,7 +258,7 @@ abort-sound r own far x s partial f role = go (x .sides) refl
         }
 
     restoring : (b : Before) → x .sides ≡ sides.Opening b
-        → Sound r own far x s (aborts ∷ []) [] s false (record { session = dropped (sided (restored b) (settled outcome.MayRetry x)); sent = []; late = false })
+        → Sound r own far x s (aborts ∷ []) [] s false (record { session = dropped (withSides (restored b) (settled outcome.MayRetry x)); sent = []; late = false })
     restoring before.Idle e =
         record {
           seen = seen-path (sym (ap endsOf e)) refl refl;

@@ -22,7 +22,8 @@ use Rattle.state.specs.declared.Sides.the-variants as sides
 use Rattle.state.specs.declared.Outcome.the-variants as outcome
 use Rattle.state.specs.declared.Session.{Session}
 use Rattle.protocol.specs.Message.{SessionMessage, data-of, increment-of, abort-of, close-of, acknowledgment-of}
-use Rattle.protocol.specs.Session.{afterData, follow, sided, settled, received as spent, incremented}
+use Rattle.state.specs.With.{withSides}
+use Rattle.protocol.specs.Session.{afterData, follow, settled, received as spent, incremented}
 use Rattle.protocol.specs.Receipt.{Taken, quietly, replying, aborted, dataTo, incrementTo, abortTo, closeTo, arriving, other, acceptable, accepted, receipt}
 use Rattle.protocol.specs.Ask.{sends, positive}
 use Rattle.protocol.specs.Observed.{received, Sending, silent, sending, anyLeft, isReady, lapses, sendsAfter, endsAfter, counted, inboundAfter, Ends, ends, ours, theirs, withIncrement, observe, established, unfinished, permitsOurs}
@@ -219,7 +220,7 @@ module _ (r : Role) (own far : Ration) (x : Session) (s : List ℕ) (f : Formed 
   increment-sound : (n : ℕ) (o t : Side) → x .sides ≡ sides.Live o t → Takes (At (increment-of n)) (incrementTo x n o t)
   unfolding fold
   increment-sound n side.Open t e = λ range.
-      let view : look far (incremented n (sided (sides.Live side.Open t) x)) s .sends ≡ withIncrement n (look far x s .sends) =
+      let view : look far (incremented n (withSides (sides.Live side.Open t) x)) s .sends ≡ withIncrement n (look far x s .sends) =
       sym (ap (λ (z : Sides). withIncrement n (sendsOf far z (take (x .waiting) s) (x .outbound) (x .finish))) e) in
       record {
         seen = seen-path (sym (ap endsOf e)) view refl;
@@ -232,7 +233,7 @@ module _ (r : Role) (own far : Ration) (x : Session) (s : List ℕ) (f : Formed 
   increment-sound n side.Finished t e = moved-sound (increment-of n) true side.Finished t t _ e refl refl refl refl refl (same-theirs side.Finished t e) (silent-increment n side.Finished t e refl) refl (still-pairs side.Finished t e)
   increment-sound n side.Ended t e = moved-sound (increment-of n) true side.Ended t t _ e refl refl refl refl refl (same-theirs side.Ended t e) (silent-increment n side.Ended t e refl) refl (still-pairs side.Ended t e)
 
-  acknowledgment-sound : (o t : Side) → x .sides ≡ sides.Live o t → Takes (At acknowledgment-of) (quietly (sided (sides.Live o t) x))
+  acknowledgment-sound : (o t : Side) → x .sides ≡ sides.Live o t → Takes (At acknowledgment-of) (quietly (withSides (sides.Live o t) x))
   acknowledgment-sound o t e = moved-sound acknowledgment-of false o t t _ e refl refl refl refl refl (same-theirs o t e) refl refl (still-pairs o t e)
 
   far-ended : (o t : Side) → x .sides ≡ sides.Live o t → theirs side.Ended (endsOf (x .sides)) ≡ ends o side.Ended

@@ -20,7 +20,8 @@ use Rattle.state.specs.declared.Session.{Session}
 use Rattle.protocol.specs.Slot.{slotSize}
 use Rattle.protocol.specs.Plan.{Plan, stop, check, take}
 use Rattle.protocol.specs.Message.{SessionMessage, data-of, increment-of, abort-of, close-of}
-use Rattle.protocol.specs.Session.{sided, dropped, settled, extended, queued, finishing, afterData}
+use Rattle.state.specs.With.{withSides, withRations, withWaiting, withOutcome}
+use Rattle.protocol.specs.Session.{dropped, settled, extended, queued, finishing, afterData}
 use Rattle.protocol.specs.Receipt.{Taken}
 
 abbrev pub writing : SessionMessage → Session → Plan Taken
@@ -33,8 +34,7 @@ silently x = take (record { session = x; sent = []; late = false })
 
 -- an open starts the outcome anew and leaves the rations alone
 abbrev pub opened : Before → Session → Session
-opened b x =
-    record { sides = sides.Opening b; outbound = x .outbound; inbound = x .inbound; waiting = 0; finish = false; outcome = outcome.Running }
+opened b x = withOutcome outcome.Running (dropped (withSides (sides.Opening b) x))
 
 abbrev pub openOf : Session → Sides → Plan Taken
 openOf x sides.Idle = silently (opened before.Idle x)
@@ -96,11 +96,11 @@ restored before.Ended = sides.Live side.Ended side.Ended
 -- our side ends, what waited is dropped
 abbrev pub aborting : Bool → Side → Session → Plan Taken
 aborting partial theirs x =
-    writing (abort-of partial) (dropped (sided (sides.Live side.Ended theirs) (settled outcome.MustNotRetry x)))
+    writing (abort-of partial) (dropped (withSides (sides.Live side.Ended theirs) (settled outcome.MustNotRetry x)))
 
 abbrev pub abortOf : Session → Bool → Sides → Plan Taken
 abortOf x partial sides.Idle = stop 5
-abortOf x partial (sides.Opening b) = silently (dropped (sided (restored b) (settled outcome.MayRetry x)))
+abortOf x partial (sides.Opening b) = silently (dropped (withSides (restored b) (settled outcome.MayRetry x)))
 abortOf x partial (sides.Live side.Open theirs) = aborting partial theirs x
 abortOf x partial (sides.Live side.Finished side.Open) = aborting partial side.Open x
 abortOf x partial (sides.Live side.Finished side.Finished) = aborting partial side.Finished x
@@ -117,7 +117,7 @@ abbrev pub closeOf : Session → Sides → Plan Taken
 closeOf x sides.Idle = stop 5
 closeOf x (sides.Opening b) = stop 5
 closeOf x (sides.Live side.Open theirs) = stop 5
-closeOf x (sides.Live side.Finished theirs) = writing close-of (sided (sides.Live side.Ended theirs) x)
+closeOf x (sides.Live side.Finished theirs) = writing close-of (withSides (sides.Live side.Ended theirs) x)
 closeOf x (sides.Live side.Ended theirs) = stop 5
 
 unfoldable pub closeAsk : Role → Session → Plan Taken
@@ -157,14 +157,8 @@ lastData x n = x .finish && eqb (x .waiting - n) 0
 abbrev pub sending : Session → Bool → Side → Ration → Ration → ℕ → Plan Taken
 sending x opens theirs outbound inbound n =
     writing (data-of n opens false (lastData x n) false)
-    (record {
-      sides = sides.Live (afterData false (lastData x n)) theirs;
-      outbound = minus outbound n;
-      inbound = inbound;
-      waiting = x .waiting - n;
-      finish = x .finish && not (lastData x n);
-      outcome = x .outcome;
-    })
+    (withSides (sides.Live (afterData false (lastData x n)) theirs)
+    (withRations (minus outbound n) inbound (withWaiting (x .waiting - n) (x .finish && not (lastData x n)) x)))
 
 abbrev pub turnOf : Ration → Ration → Session → Sides → Plan Taken
 turnOf own far x sides.Idle = stop 9

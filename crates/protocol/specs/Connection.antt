@@ -17,6 +17,7 @@ use Rattle.state.specs.declared.Session.{Session}
 use Rattle.state.specs.declared.Stage.{Stage}
 use Rattle.state.specs.declared.Stage.the-variants as stage
 use Rattle.state.specs.declared.Connection.{Connection}
+use Rattle.state.specs.With.{withSessions, withOver}
 use Rattle.protocol.specs.Slot.{slotSize}
 use Rattle.state.specs.New.{blank}
 use Rattle.protocol.specs.Session.{settled}
@@ -102,5 +103,4 @@ ending line-lost x = settled (unlessSent (x .sides)) x
 
 -- the connection is over; nothing else changes but outcomes
 abbrev pub ended : Cause → Connection → Connection
-ended cause c =
-    record { sessions = map (ending cause) (c .sessions); stage = c .stage; over = true; own = c .own; last = c .last; ping = c .ping }
+ended cause c = withOver true (withSessions (map (ending cause) (c .sessions)) c)

@@ -3,7 +3,6 @@ use Prim.Native.Nat.{ℕ}
 use mathlib.Core.Bool.{Bool, false, not}
 use mathlib.Core.List.{List, [], _∷_, map}
 use lib.Dec.{eqb}
-use lib.ListN.{set}
 use Rattle.wire.specs.declared.Message.{Message}
 use Rattle.wire.specs.declared.Message.the-variants as msg
 use Rattle.state.specs.declared.Session.{Session}
@@ -12,6 +11,7 @@ use Rattle.state.specs.declared.Stage.the-variants as stage
 use Rattle.state.specs.declared.Ping.{Ping}
 use Rattle.state.specs.declared.Ping.the-variants as ping
 use Rattle.state.specs.declared.Connection.{Connection}
+use Rattle.state.specs.With.{withSession, withStage, withLast, withPing}
 use Rattle.protocol.specs.Plan.{Plan, stop, check, take, settle}
 use Rattle.protocol.specs.Message.{Scope, whole, of-session, scope, numbered}
 use Rattle.protocol.specs.Receipt.{Taken, receipt}
@@ -58,58 +58,32 @@ pub data Decision : Type 0 where
 
 -- ---- effects
 
--- nothing changes but what is said
-abbrev pub unchanged : Connection → Report → List Out → Effect
-unchanged c r outs =
-    record {
-      number = 0;
-      session = at c 0;
-      stage = c .stage;
-      last = c .last;
-      ping = c .ping;
-      ending = goes-on;
-      report = r;
-      outs = outs;
-    }
-
-abbrev pub ends-by : Connection → Cause → Report → List Out → Effect
-ends-by c cause r outs =
-    record {
-      number = 0;
-      session = at c 0;
-      stage = c .stage;
-      last = c .last;
-      ping = c .ping;
-      ending = ends cause;
-      report = r;
-      outs = outs;
-    }
-
-abbrev pub with-ping : Connection → Ping → Report → List Out → Effect
-with-ping c p r outs =
-    record {
-      number = 0;
-      session = at c 0;
-      stage = c .stage;
-      last = c .last;
-      ping = p;
-      ending = goes-on;
-      report = r;
-      outs = outs;
-    }
-
-abbrev pub with-stage : Connection → Stage → Report → List Out → Effect
-with-stage c s r outs =
+-- no session changes
+abbrev pub effect : Connection → Stage → Ping → Ending → Report → List Out → Effect
+effect c s p ending r outs =
     record {
       number = 0;
       session = at c 0;
       stage = s;
       last = c .last;
-      ping = c .ping;
-      ending = goes-on;
+      ping = p;
+      ending = ending;
       report = r;
       outs = outs;
     }
+
+-- nothing changes but what is said
+abbrev pub unchanged : Connection → Report → List Out → Effect
+unchanged c r outs = effect c (c .stage) (c .ping) goes-on r outs
+
+abbrev pub ends-by : Connection → Cause → Report → List Out → Effect
+ends-by c cause r outs = effect c (c .stage) (c .ping) (ends cause) r outs
+
+abbrev pub with-ping : Connection → Ping → Report → List Out → Effect
+with-ping c p r outs = effect c (c .stage) p goes-on r outs
+
+abbrev pub with-stage : Connection → Stage → Report → List Out → Effect
+with-stage c s r outs = effect c s (c .ping) goes-on r outs
 
 -- what was taken for one session: the connection adds the number to what is written
 abbrev pub with-session : Connection → ℕ → ℕ → Report → Taken → Effect
@@ -133,7 +107,7 @@ continued (ends cause) c = ended cause c
 abbrev pub commit : Connection → Effect → Connection
 commit c e =
     continued (e .ending)
-    (record { sessions = set (c .sessions) (e .number) (e .session); stage = e .stage; over = c .over; own = c .own; last = e .last; ping = e .ping })
+    (withPing (e .ping) (withLast (e .last) (withStage (e .stage) (withSession (e .number) (e .session) c))))
 
 -- ---- the judging of a message
 

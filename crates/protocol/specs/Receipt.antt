@@ -16,7 +16,9 @@ use Rattle.state.specs.declared.Outcome.the-variants as outcome
 use Rattle.state.specs.declared.Session.{Session}
 use Rattle.protocol.specs.Plan.{Plan, stop, check, take}
 use Rattle.protocol.specs.Message.{SessionMessage, data-of, increment-of, abort-of, close-of, acknowledgment-of}
-use Rattle.protocol.specs.Session.{Move, to, wrong, follow, afterData, sided, dropped, settled, received, incremented}
+use Rattle.state.specs.New.{blank}
+use Rattle.state.specs.With.{withSides, withRations}
+use Rattle.protocol.specs.Session.{Move, to, wrong, follow, afterData, dropped, settled, received, incremented}
 
 -- the session after the message, the replies, and whether the message was late
 pub record Taken : Type 0 where
@@ -33,7 +35,7 @@ lately x = take (record { session = x; sent = []; late = true })
 -- a reply Abort ends our side and drops what waited; a server's sets partial
 abbrev pub replying : Role → Side → Session → Plan Taken
 replying r theirs x =
-    take (record { session = dropped (sided (sides.Live side.Ended theirs) x); sent = abort-of (isServer r) ∷ []; late = false })
+    take (record { session = dropped (withSides (sides.Live side.Ended theirs) x); sent = abort-of (isServer r) ∷ []; late = false })
 
 -- the outcome after Data: a close flag completes
 abbrev pub closed : Bool → Session → Session
@@ -47,33 +49,33 @@ aborted false = outcome.MayRetry
 
 -- Data that our ended side gets is late: not counted, 26 not asked; a close flag gets a reply where our side is open
 abbrev pub dataTo : Role → Session → ℕ → Bool → Side → Side → Plan Taken
-dataTo r x n close side.Ended theirs = lately (closed close (sided (sides.Live side.Ended theirs) x))
+dataTo r x n close side.Ended theirs = lately (closed close (withSides (sides.Live side.Ended theirs) x))
 dataTo r x n close side.Finished theirs =
-    check (not (allows (x .inbound) n)) 26 (quietly (closed close (received n (sided (sides.Live side.Finished theirs) x))))
+    check (not (allows (x .inbound) n)) 26 (quietly (closed close (received n (withSides (sides.Live side.Finished theirs) x))))
 dataTo r x n true side.Open theirs =
     check (not (allows (x .inbound) n)) 26 (replying r theirs (settled outcome.Complete (received n x)))
 dataTo r x n false side.Open theirs =
-    check (not (allows (x .inbound) n)) 26 (quietly (received n (sided (sides.Live side.Open theirs) x)))
+    check (not (allows (x .inbound) n)) 26 (quietly (received n (withSides (sides.Live side.Open theirs) x)))
 
 -- an increment that our finished or ended side gets is late and changes nothing
 abbrev pub incrementTo : Session → ℕ → Side → Side → Plan Taken
 incrementTo x n side.Open theirs =
-    check (not (inRange (plus (x .outbound) n))) 27 (quietly (incremented n (sided (sides.Live side.Open theirs) x)))
-incrementTo x n side.Finished theirs = lately (sided (sides.Live side.Finished theirs) x)
-incrementTo x n side.Ended theirs = lately (sided (sides.Live side.Ended theirs) x)
+    check (not (inRange (plus (x .outbound) n))) 27 (quietly (incremented n (withSides (sides.Live side.Open theirs) x)))
+incrementTo x n side.Finished theirs = lately (withSides (sides.Live side.Finished theirs) x)
+incrementTo x n side.Ended theirs = lately (withSides (sides.Live side.Ended theirs) x)
 
 -- an Abort gets a reply where our side is open, or is a server's finished side
 abbrev pub abortTo : Role → Session → Side → Side → Plan Taken
 abortTo r x side.Open theirs = replying r theirs x
-abortTo role.Client x side.Finished theirs = quietly (sided (sides.Live side.Finished theirs) x)
+abortTo role.Client x side.Finished theirs = quietly (withSides (sides.Live side.Finished theirs) x)
 abortTo role.Server x side.Finished theirs = replying role.Server theirs x
-abortTo r x side.Ended theirs = quietly (sided (sides.Live side.Ended theirs) x)
+abortTo r x side.Ended theirs = quietly (withSides (sides.Live side.Ended theirs) x)
 
 -- a Close gets a reply where our side is open
 abbrev pub closeTo : Role → Session → Side → Side → Plan Taken
 closeTo r x side.Open theirs = replying r theirs x
-closeTo r x side.Finished theirs = quietly (sided (sides.Live side.Finished theirs) x)
-closeTo r x side.Ended theirs = quietly (sided (sides.Live side.Ended theirs) x)
+closeTo r x side.Finished theirs = quietly (withSides (sides.Live side.Finished theirs) x)
+closeTo r x side.Ended theirs = quietly (withSides (sides.Live side.Ended theirs) x)
 
 -- a message to our side, and where it leaves the side that sent it
 abbrev pub arriving : Role → Session → SessionMessage → Side → Move → Plan Taken
@@ -82,7 +84,7 @@ arriving r x (data-of n opens close eof ack) ours (to theirs) = dataTo r x n clo
 arriving r x (increment-of n) ours (to theirs) = incrementTo x n ours theirs
 arriving r x (abort-of partial) ours (to theirs) = abortTo r (settled (aborted partial) x) ours theirs
 arriving r x close-of ours (to theirs) = closeTo r (settled outcome.Complete x) ours theirs
-arriving r x acknowledgment-of ours (to theirs) = quietly (sided (sides.Live ours theirs) x)
+arriving r x acknowledgment-of ours (to theirs) = quietly (withSides (sides.Live ours theirs) x)
 
 -- a message other than an open Data for an idle or opening number is in the wrong state
 abbrev pub other : Role → Session → SessionMessage → Sides → Plan Taken
@@ -100,17 +102,10 @@ acceptable (sides.Live side.Ended side.Open) = false
 acceptable (sides.Live side.Ended side.Finished) = true
 acceptable (sides.Live side.Ended side.Ended) = true
 
--- a session just accepted: both rations are set from the headers, then the length is spent
+-- a session just accepted: both rations are set from the headers, then the length is spent; nothing of what stood is kept
 abbrev pub accepted : Ration → Ration → ℕ → Bool → Bool → Session
 accepted own far n close eof =
-    record {
-      sides = sides.Live side.Open (afterData close eof);
-      outbound = far;
-      inbound = minus own n;
-      waiting = 0;
-      finish = false;
-      outcome = outcome.None;
-    }
+    withSides (sides.Live side.Open (afterData close eof)) (withRations far (minus own n) blank)
 
 -- `own` and `far` are the starting rations that our header and theirs grant
 unfoldable pub receipt : Role → Ration → Ration → Session → SessionMessage → Plan Taken

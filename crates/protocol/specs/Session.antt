@@ -1,13 +1,13 @@
--- A session, seen from one end: its sides, how its own messages move a side, and the ways in which a session is rebuilt.
+-- A session, seen from one end: its sides, how its own messages move a side, and the ways in which a session changes.
 use Prim.Native.Nat.{ℕ, _+_}
 use mathlib.Core.Bool.{Bool, true, false}
 use Rattle.ration.specs.Ration.{plus, minus}
 use Rattle.state.specs.declared.Side.{Side}
 use Rattle.state.specs.declared.Side.the-variants as side
-use Rattle.state.specs.declared.Sides.{Sides}
 use Rattle.state.specs.declared.Outcome.{Outcome}
 use Rattle.state.specs.declared.Outcome.the-variants as outcome
 use Rattle.state.specs.declared.Session.{Session}
+use Rattle.state.specs.With.{withRations, withWaiting, withOutcome}
 use Rattle.protocol.specs.Message.{SessionMessage, data-of, increment-of, abort-of, close-of, acknowledgment-of}
 
 -- ---- a side's movement
@@ -48,33 +48,30 @@ becomes outcome.Complete new = outcome.Complete
 becomes outcome.MayRetry new = outcome.MayRetry
 becomes outcome.MustNotRetry new = outcome.MustNotRetry
 
--- ---- the ways in which a session is rebuilt
-
-abbrev pub sided : Sides → Session → Session
-sided z x = record { sides = z; outbound = x .outbound; inbound = x .inbound; waiting = x .waiting; finish = x .finish; outcome = x .outcome }
+-- ---- the ways in which a session changes
 
 -- nothing waits and no finish is asked
 abbrev pub dropped : Session → Session
-dropped x = record { sides = x .sides; outbound = x .outbound; inbound = x .inbound; waiting = 0; finish = false; outcome = x .outcome }
+dropped x = withWaiting 0 false x
 
 abbrev pub settled : Outcome → Session → Session
-settled new x = record { sides = x .sides; outbound = x .outbound; inbound = x .inbound; waiting = x .waiting; finish = x .finish; outcome = becomes (x .outcome) new }
+settled new x = withOutcome (becomes (x .outcome) new) x
 
 -- n bytes of the inbound ration are spent
 abbrev pub received : ℕ → Session → Session
-received n x = record { sides = x .sides; outbound = x .outbound; inbound = minus (x .inbound) n; waiting = x .waiting; finish = x .finish; outcome = x .outcome }
+received n x = withRations (x .outbound) (minus (x .inbound) n) x
 
 -- the outbound ration has grown by n
 abbrev pub incremented : ℕ → Session → Session
-incremented n x = record { sides = x .sides; outbound = plus (x .outbound) n; inbound = x .inbound; waiting = x .waiting; finish = x .finish; outcome = x .outcome }
+incremented n x = withRations (plus (x .outbound) n) (x .inbound) x
 
 -- the inbound ration has grown by n
 abbrev pub extended : ℕ → Session → Session
-extended n x = record { sides = x .sides; outbound = x .outbound; inbound = plus (x .inbound) n; waiting = x .waiting; finish = x .finish; outcome = x .outcome }
+extended n x = withRations (x .outbound) (plus (x .inbound) n) x
 
 -- n bytes more wait
 abbrev pub queued : ℕ → Session → Session
-queued n x = record { sides = x .sides; outbound = x .outbound; inbound = x .inbound; waiting = x .waiting + n; finish = x .finish; outcome = x .outcome }
+queued n x = withWaiting (x .waiting + n) (x .finish) x
 
 abbrev pub finishing : Session → Session
-finishing x = record { sides = x .sides; outbound = x .outbound; inbound = x .inbound; waiting = x .waiting; finish = true; outcome = x .outcome }
+finishing x = withWaiting (x .waiting) true x

@@ -34,6 +34,23 @@ spend-left r s n q = go (allows r n) refl q
     go true e p = let same : minus r n ≡ s = cc in rw (← same) (minus-plus r n e)
     go false e p = let z : _≡_ {A = ℕ} 0 1 = cc in absurd (omega arith)
 
+-- a spend that leaves something was allowed, and one that does not was not
+pub spend-gives : (r s : Ration) (n : ℕ) → spend r n ≡ Left s → (allows r n ≡ true) × (s ≡ minus r n)
+unfolding spend pick
+spend-gives r s n q = go (allows r n) refl q
+  where
+    go : (b : Bool) → allows r n ≡ b → pick b (Left (minus r n)) NotEnough ≡ Left s → (allows r n ≡ true) × (s ≡ minus r n)
+    go true e p = let same : s ≡ minus r n = cc in (e, same)
+    go false e p = let z : _≡_ {A = ℕ} 0 1 = cc in absurd (omega arith)
+
+pub spend-none : (r : Ration) (n : ℕ) → spend r n ≡ NotEnough → allows r n ≡ false
+unfolding spend pick
+spend-none r n q = go (allows r n) refl q
+  where
+    go : (b : Bool) → allows r n ≡ b → pick b (Left (minus r n)) NotEnough ≡ NotEnough → allows r n ≡ false
+    go true e p = let z : _≡_ {A = ℕ} 0 1 = cc in absurd (omega arith)
+    go false e p = e
+
 pub spend-endless : (n : ℕ) → spend Endless n ≡ Left Endless
 spend-endless n = spend-allowed Endless n refl
 

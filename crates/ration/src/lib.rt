@@ -1,6 +1,6 @@
 // The ration: how many bytes an end may still send, or still has room for, on one session.
 ghost use mathlib.Core.Path.{_≡_};
-ghost use Rattle.ration.specs.Ration.{largest, fromHeader, inRange, allows, spend, grow, grantable};
+ghost use Rattle.ration.specs.Ration.{largest, fromHeader, inRange, spend, grow};
 
 // A finite ration, or one that never runs out.
 pub enum Ration {
@@ -45,16 +45,6 @@ impl Ration {
         }
     }
 
-    // Whether n bytes may be spent.
-    pub fn allows(self, n: u32) -> bool
-        ensures { λ r. ⌜ r ≡ allows self n ⌝ }
-    {
-        match self {
-            Ration::Finite(left) => n <= left,
-            Ration::Endless => true,
-        }
-    }
-
     // The ration after n bytes are spent; a ration that is too small stays whole.
     pub fn spend(self, n: u32) -> Spent
         ensures { λ r. ⌜ r ≡ spend self n ⌝ }
@@ -85,16 +75,6 @@ impl Ration {
                 }
             }
             Ration::Endless => Grown::To(Ration::Endless),
-        }
-    }
-
-    // Whether n more bytes may be granted: an endless ration takes no grant.
-    pub fn grantable(self, n: u32) -> bool
-        ensures { λ r. ⌜ r ≡ grantable self n ⌝ }
-    {
-        match self {
-            Ration::Finite(left) => (left as u64) + (n as u64) <= (Ration::LARGEST as u64),
-            Ration::Endless => false,
         }
     }
 }

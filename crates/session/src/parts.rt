@@ -1,9 +1,8 @@
-// The ways in which a session is rebuilt, what goes into it, and the answer of a step that is taken.
+// The ways in which a session changes that several steps share, and the answer of a step that is taken.
 use crate::Asked;
 use crate::SLOT_SIZE;
 use crate::Sent;
 use crate::Taken;
-use ration::Ration;
 use state::Outcome;
 use state::Session;
 use state::Side;
@@ -11,11 +10,11 @@ use state::Sides;
 ghost use mathlib.Core.Path.{_≡_};
 ghost use mathlib.Core.Bool.{false};
 ghost use Prim.Native.Nat.{_-_};
+ghost use lib.Dec.{leb};
 ghost use Rattle.laws.specs.Result.{ok};
 ghost use Rattle.protocol.specs.Slot.{slotSize};
 ghost use Rattle.session.specs.Step.{sentAs, askedAs};
-ghost use Rattle.ration.specs.Ration.{minus};
-ghost use Rattle.protocol.specs.Session.{becomes as Session·becomes, sided as Session·sided, dropped as Session·dropped, settled as Session·settled, afterData};
+ghost use Rattle.protocol.specs.Session.{becomes as Session·becomes, dropped as Session·dropped, settled as Session·settled, afterData};
 ghost use Rattle.protocol.specs.Ask.{sends as Ask·sends};
 
 // Where Data leaves the side that sends it.
@@ -59,82 +58,19 @@ pub fn becomes(was: Outcome, new: Outcome) -> Outcome
     }
 }
 
-// A ration with n bytes less, or 0 where it has fewer.
-pub fn less(r: Ration, n: u16) -> Ration
-    ensures { λ left. ⌜ left ≡ minus r n ⌝ }
-{
-    match r {
-        Ration::Finite(left) => {
-            let spent = n as u32;
-            if spent <= left {
-                return Ration::Finite(left - spent);
-            }
-            Ration::Finite(0)
-        }
-        Ration::Endless => Ration::Endless,
-    }
-}
-
-// The session with other sides.
-pub fn sided(x: Session, sides: Sides) -> Session
-    ensures { λ r. ⌜ r ≡ Session·sided sides x ⌝ }
-{
-    let outbound = x.outbound;
-    let inbound = x.inbound;
-    let outcome = x.outcome;
-    Session {
-        sides,
-        outbound,
-        inbound,
-        waiting: x.waiting,
-        finish: x.finish,
-        outcome,
-    }
-}
-
 // The session with nothing waiting and no finish asked.
 pub fn dropped(x: Session) -> Session
     ensures { λ r. ⌜ r ≡ Session·dropped x ⌝ }
 {
-    let mut next = x;
-    next.waiting = 0;
-    next.finish = false;
-    next
+    x.with_waiting(0, false)
 }
 
 // The session with a new outcome, where its outcome runs.
 pub fn settled(x: Session, new: Outcome) -> Session
     ensures { λ r. ⌜ r ≡ Session·settled new x ⌝ }
 {
-    let sides = x.sides;
-    let outbound = x.outbound;
-    let inbound = x.inbound;
     let was = x.outcome;
-    let outcome = becomes(was, new);
-    Session {
-        sides,
-        outbound,
-        inbound,
-        waiting: x.waiting,
-        finish: x.finish,
-        outcome,
-    }
-}
-
-// The session with other rations.
-pub fn rationed(x: Session, outbound: Ration, inbound: Ration) -> Session
-    ensures { λ r. ⌜ r ≡ record { sides = x .sides; outbound = outbound; inbound = inbound; waiting = x .waiting; finish = x .finish; outcome = x .outcome } ⌝ }
-{
-    let sides = x.sides;
-    let outcome = x.outcome;
-    Session {
-        sides,
-        outbound,
-        inbound,
-        waiting: x.waiting,
-        finish: x.finish,
-        outcome,
-    }
+    x.with_outcome(becomes(was, new))
 }
 
 // The call is taken.
@@ -148,13 +84,13 @@ pub fn taken(x: Session, sent: Sent) -> Asked
     })
 }
 
-// How many bytes more the slot of a session takes; the constant is the size that the rules use.
-pub fn space(waiting: u16) -> u16
-    ensures { λ r. ⌜ r ≡ slotSize - waiting ⌝ }
+// Whether n bytes more fit the slot of a session, beside those that wait; the constant is the size that the rules use.
+pub fn fits_slot(waiting: u16, n: usize) -> bool
+    ensures { λ r. ⌜ r ≡ leb n (slotSize - waiting) ⌝ }
     ensures { λ _. do ⌜ (← ⟦SLOT_SIZE⟧ .entry) ≡ slotSize ⌝ }
 {
     if waiting <= SLOT_SIZE {
-        return SLOT_SIZE - waiting;
+        return n <= (SLOT_SIZE - waiting) as usize;
     }
-    0
+    n == 0
 }

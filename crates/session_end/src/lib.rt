@@ -4,7 +4,6 @@ use session::Asked;
 use session::Sent;
 use session::parts::dropped;
 use session::parts::settled;
-use session::parts::sided;
 use session::parts::taken;
 use state::Before;
 use state::Outcome;
@@ -15,7 +14,8 @@ use wire::Role;
 use wire_fields::is_client;
 ghost use mathlib.Core.Path.{_≡_};
 ghost use Prim.Native.Nat.{_-_};
-ghost use Rattle.protocol.specs.Session.{sided as Session·sided, dropped as Session·dropped, settled as Session·settled};
+ghost use Rattle.state.specs.With.{withSides};
+ghost use Rattle.protocol.specs.Session.{dropped as Session·dropped, settled as Session·settled};
 ghost use Rattle.protocol.specs.Ask.{closeOf, closeAsk, restored as Ask·restored, aborting, abortOf, abortAsk};
 ghost use Rattle.session.specs.Step.{askedAs, toAsked};
 ghost use Rattle.state.specs.declared.Side.the-variants.{Finished};
@@ -32,7 +32,7 @@ fn close_of(x: Session, sides: Sides) -> Asked
         Sides::Live(ours, theirs) => match ours {
             Side::Open => Asked::Refused(Refusal::WrongState),
             Side::Finished => {
-                let next = sided(x, Sides::Live(Side::Ended, theirs));
+                let next = x.with_sides(Sides::Live(Side::Ended, theirs));
                 taken(next, Sent::Close)
             }
             Side::Ended => Asked::Refused(Refusal::WrongState),
@@ -64,10 +64,11 @@ fn restored(before: Before) -> Sides
 
 // Aborts an opening: nothing was sent, so nothing is written.
 fn abort_opening(x: Session, before: Before) -> Session
-    ensures { λ r. ⌜ r ≡ Session·dropped (Session·sided (Ask·restored before) (Session·settled MayRetry x)) ⌝ }
+    ensures { λ r. ⌜ r ≡ Session·dropped (withSides (Ask·restored before) (Session·settled MayRetry x)) ⌝ }
 {
     let sides = restored(before);
-    dropped(sided(settled(x, Outcome::MayRetry), sides))
+    let ended = settled(x, Outcome::MayRetry);
+    dropped(ended.with_sides(sides))
 }
 
 // Aborts a session that was sent.
@@ -75,8 +76,8 @@ fn abort_sent(x: Session, partial: bool, theirs: Side) -> Asked
     ensures { λ r. ⌜ askedAs r ≡ toAsked (aborting partial theirs x) ⌝ }
 {
     let sides = Sides::Live(Side::Ended, theirs);
-    let next = dropped(sided(settled(x, Outcome::MustNotRetry), sides));
-    taken(next, Sent::Abort(partial))
+    let ended = settled(x, Outcome::MustNotRetry);
+    taken(dropped(ended.with_sides(sides)), Sent::Abort(partial))
 }
 
 fn abort_finished(x: Session, partial: bool, theirs: Side) -> Asked

@@ -4,7 +4,6 @@ use ration::Ration;
 use refusal::Refusal;
 use session::Asked;
 use session::Sent;
-use session::parts::rationed;
 use session::parts::taken;
 use state::Session;
 use state::Side;
@@ -63,7 +62,7 @@ fn extend(x: Session, amount: u16) -> Asked
             let grown = inbound.grow(amount as u32);
             match grown {
                 Grown::To(more) => {
-                    let next = rationed(x, outbound, more);
+                    let next = x.with_rations(outbound, more);
                     taken(next, Sent::Increment(amount))
                 }
                 Grown::PastLargest => Asked::Refused(Refusal::GrantTooLarge),

@@ -2,6 +2,7 @@
 use refusal::Refusal;
 use session::Asked;
 use session::Sent;
+use session::parts::dropped;
 use session::parts::taken;
 use state::Before;
 use state::Outcome;
@@ -19,16 +20,8 @@ ghost use Rattle.session.specs.Step.{askedAs, toAsked};
 fn opened(x: Session, before: Before) -> Session
     ensures { λ r. ⌜ r ≡ Ask·opened before x ⌝ }
 {
-    let outbound = x.outbound;
-    let inbound = x.inbound;
-    Session {
-        sides: Sides::Opening(before),
-        outbound,
-        inbound,
-        waiting: 0,
-        finish: false,
-        outcome: Outcome::Running,
-    }
+    let opening = dropped(x.with_sides(Sides::Opening(before)));
+    opening.with_outcome(Outcome::Running)
 }
 
 // Opens a number that was used before: its far side is ended and its own side is finished or ended.

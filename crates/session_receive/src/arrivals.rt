@@ -4,11 +4,9 @@ use crate::Received;
 use crate::increments::increment_to;
 use crate::replies::reply;
 use crate::replies::taken;
+use ration::Spent;
 use refusal::Violation;
-use session::parts::less;
-use session::parts::rationed;
 use session::parts::settled;
-use session::parts::sided;
 use state::Outcome;
 use state::Session;
 use state::Side;
@@ -16,7 +14,7 @@ use state::Sides;
 use wire::Role;
 ghost use mathlib.Core.Path.{_≡_};
 ghost use Rattle.state.specs.declared.Side.the-variants.{Open as Side·Open, Finished as Side·Finished};
-ghost use Rattle.protocol.specs.Session.{received as Session·received, to};
+ghost use Rattle.protocol.specs.Session.{to};
 ghost use Rattle.protocol.specs.Receipt.{closed as Receipt·closed, aborted as Receipt·aborted, dataTo, abortTo, closeTo, arriving};
 ghost use Rattle.session_receive.specs.Receipt.{receivedAs, receiptAs, toReceipt};
 
@@ -30,40 +28,40 @@ fn closed(x: Session, close: bool) -> Session
     x
 }
 
-// The session with n bytes of its inbound ration spent.
-fn counted(x: Session, n: u16) -> Session
-    ensures { λ r. ⌜ r ≡ Session·received n x ⌝ }
-{
-    let outbound = x.outbound;
-    let inbound = x.inbound;
-    let left = less(inbound, n);
-    rationed(x, outbound, left)
-}
-
 // Data to our finished side is counted.
 fn data_to_finished(role: Role, x: Session, n: u16, close: bool, theirs: Side) -> Receipt
     ensures { λ r. ⌜ receiptAs r ≡ toReceipt (dataTo role x n close Side·Finished theirs) ⌝ }
 {
+    let outbound = x.outbound;
     let inbound = x.inbound;
-    if inbound.allows(n as u32) {
-        let next = counted(sided(x, Sides::Live(Side::Finished, theirs)), n);
-        return taken(closed(next, close), false);
+    let spent = inbound.spend(n as u32);
+    match spent {
+        Spent::Left(left) => {
+            let next = x.with_rations(outbound, left);
+            let stays = next.with_sides(Sides::Live(Side::Finished, theirs));
+            taken(closed(stays, close), false)
+        }
+        Spent::NotEnough => Receipt::Violated(Violation::AboveRation),
     }
-    Receipt::Violated(Violation::AboveRation)
 }
 
 // Data to our open side is counted, and a close flag gets a reply.
 fn data_to_open(role: Role, x: Session, n: u16, close: bool, theirs: Side) -> Receipt
     ensures { λ r. ⌜ receiptAs r ≡ toReceipt (dataTo role x n close Side·Open theirs) ⌝ }
 {
+    let outbound = x.outbound;
     let inbound = x.inbound;
-    if inbound.allows(n as u32) {
-        if close {
-            return reply(role, settled(counted(x, n), Outcome::Complete), theirs);
+    let spent = inbound.spend(n as u32);
+    match spent {
+        Spent::Left(left) => {
+            let next = x.with_rations(outbound, left);
+            if close {
+                return reply(role, settled(next, Outcome::Complete), theirs);
+            }
+            taken(next.with_sides(Sides::Live(Side::Open, theirs)), false)
         }
-        return taken(counted(sided(x, Sides::Live(Side::Open, theirs)), n), false);
+        Spent::NotEnough => Receipt::Violated(Violation::AboveRation),
     }
-    Receipt::Violated(Violation::AboveRation)
 }
 
 // Data to our ended side is late.
@@ -74,7 +72,7 @@ fn data_to(role: Role, x: Session, n: u16, close: bool, ours: Side, theirs: Side
         Side::Open => data_to_open(role, x, n, close, theirs),
         Side::Finished => data_to_finished(role, x, n, close, theirs),
         Side::Ended => {
-            let next = sided(x, Sides::Live(Side::Ended, theirs));
+            let next = x.with_sides(Sides::Live(Side::Ended, theirs));
             taken(closed(next, close), true)
         }
     }
@@ -87,10 +85,10 @@ fn abort_to(role: Role, x: Session, ours: Side, theirs: Side) -> Receipt
     match ours {
         Side::Open => reply(role, x, theirs),
         Side::Finished => match role {
-            Role::Client => taken(sided(x, Sides::Live(Side::Finished, theirs)), false),
+            Role::Client => taken(x.with_sides(Sides::Live(Side::Finished, theirs)), false),
             Role::Server => reply(Role::Server, x, theirs),
         },
-        Side::Ended => taken(sided(x, Sides::Live(Side::Ended, theirs)), false),
+        Side::Ended => taken(x.with_sides(Sides::Live(Side::Ended, theirs)), false),
     }
 }
 
@@ -100,8 +98,8 @@ fn close_to(role: Role, x: Session, ours: Side, theirs: Side) -> Receipt
 {
     match ours {
         Side::Open => reply(role, x, theirs),
-        Side::Finished => taken(sided(x, Sides::Live(Side::Finished, theirs)), false),
-        Side::Ended => taken(sided(x, Sides::Live(Side::Ended, theirs)), false),
+        Side::Finished => taken(x.with_sides(Sides::Live(Side::Finished, theirs)), false),
+        Side::Ended => taken(x.with_sides(Sides::Live(Side::Ended, theirs)), false),
     }
 }
 
@@ -124,6 +122,6 @@ pub(crate) fn arrive(role: Role, x: Session, m: Received, ours: Side, theirs: Si
         Received::Increment(n) => increment_to(x, n, ours, theirs),
         Received::Abort(partial) => abort_to(role, settled(x, aborted(partial)), ours, theirs),
         Received::Close => close_to(role, settled(x, Outcome::Complete), ours, theirs),
-        Received::Acknowledgment => taken(sided(x, Sides::Live(ours, theirs)), false),
+        Received::Acknowledgment => taken(x.with_sides(Sides::Live(ours, theirs)), false),
     }
 }

@@ -3,8 +3,6 @@ use crate::Receipt;
 use crate::replies::taken;
 use ration::Grown;
 use refusal::Violation;
-use session::parts::rationed;
-use session::parts::sided;
 use state::Session;
 use state::Side;
 use state::Sides;
@@ -21,8 +19,8 @@ fn increment_to_open(x: Session, n: u32, theirs: Side) -> Receipt
     let grown = outbound.grow(n);
     match grown {
         Grown::To(more) => {
-            let next = sided(x, Sides::Live(Side::Open, theirs));
-            taken(rationed(next, more, inbound), false)
+            let next = x.with_sides(Sides::Live(Side::Open, theirs));
+            taken(next.with_rations(more, inbound), false)
         }
         Grown::PastLargest => Receipt::Violated(Violation::PastLargest),
     }
@@ -34,7 +32,7 @@ pub(crate) fn increment_to(x: Session, n: u32, ours: Side, theirs: Side) -> Rece
 {
     match ours {
         Side::Open => increment_to_open(x, n, theirs),
-        Side::Finished => taken(sided(x, Sides::Live(Side::Finished, theirs)), true),
-        Side::Ended => taken(sided(x, Sides::Live(Side::Ended, theirs)), true),
+        Side::Finished => taken(x.with_sides(Sides::Live(Side::Finished, theirs)), true),
+        Side::Ended => taken(x.with_sides(Sides::Live(Side::Ended, theirs)), true),
     }
 }

@@ -6,10 +6,9 @@ use crate::moves::Move;
 use crate::moves::follow;
 use crate::replies::taken;
 use ration::Ration;
+use ration::Spent;
 use refusal::Violation;
 use session::parts::after_data;
-use session::parts::less;
-use state::Outcome;
 use state::Session;
 use state::Side;
 use state::Sides;
@@ -18,7 +17,7 @@ ghost use mathlib.Core.Path.{_≡_};
 ghost use mathlib.Core.Bool.{not};
 ghost use Rattle.ration.specs.Ration.{allows};
 ghost use Rattle.protocol.specs.Plan.{check};
-ghost use Rattle.protocol.specs.Receipt.{quietly, other as Receipt·other, acceptable as Receipt·acceptable, accepted as Receipt·accepted, receipt};
+ghost use Rattle.protocol.specs.Receipt.{quietly, other as Receipt·other, acceptable as Receipt·acceptable, accepted, receipt};
 ghost use Rattle.session_receive.specs.Receipt.{receivedAs, receiptAs, toReceipt};
 
 // A message other than an open Data, which an idle or opening number does not take.
@@ -57,32 +56,21 @@ fn acceptable(sides: Sides) -> bool
     }
 }
 
-// A session just accepted: both rations are set from the headers, then the length is spent.
-fn accepted(own: Ration, far: Ration, n: u16, close: bool, eof: bool) -> Session
-    ensures { λ r. ⌜ r ≡ Receipt·accepted own far n close eof ⌝ }
-{
-    let theirs = after_data(close, eof);
-    let inbound = less(own, n);
-    Session {
-        sides: Sides::Live(Side::Open, theirs),
-        outbound: far,
-        inbound,
-        waiting: 0,
-        finish: false,
-        outcome: Outcome::None,
-    }
-}
-
-// An open Data message.
+// An open Data message: both rations are set from the headers, then the length is spent.
 fn accept(own: Ration, far: Ration, x: Session, n: u16, close: bool, eof: bool) -> Receipt
-    ensures { λ r. ⌜ receiptAs r ≡ toReceipt (check (not (Receipt·acceptable (x .sides))) 25 (check (not (allows own n)) 26 (quietly (Receipt·accepted own far n close eof)))) ⌝ }
+    ensures { λ r. ⌜ receiptAs r ≡ toReceipt (check (not (Receipt·acceptable (x .sides))) 25 (check (not (allows own n)) 26 (quietly (accepted own far n close eof)))) ⌝ }
 {
     let sides = x.sides;
     if acceptable(sides) {
-        if own.allows(n as u32) {
-            return taken(accepted(own, far, n, close, eof), false);
-        }
-        return Receipt::Violated(Violation::AboveRation);
+        let spent = own.spend(n as u32);
+        return match spent {
+            Spent::Left(left) => {
+                let theirs = after_data(close, eof);
+                let begun = Session::BLANK.with_rations(far, left);
+                taken(begun.with_sides(Sides::Live(Side::Open, theirs)), false)
+            }
+            Spent::NotEnough => Receipt::Violated(Violation::AboveRation),
+        };
     }
     Receipt::Violated(Violation::WrongState)
 }

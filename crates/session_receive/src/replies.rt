@@ -4,7 +4,6 @@ use crate::Receipt;
 use session::Sent;
 use session::Taken;
 use session::parts::dropped;
-use session::parts::sided;
 use state::Session;
 use state::Side;
 use state::Sides;
@@ -31,7 +30,7 @@ pub(crate) fn taken(x: Session, late: bool) -> Receipt
 pub(crate) fn reply(role: Role, x: Session, theirs: Side) -> Receipt
     ensures { λ r. ⌜ receiptAs r ≡ toReceipt (replying role theirs x) ⌝ }
 {
-    let next = dropped(sided(x, Sides::Live(Side::Ended, theirs)));
+    let next = dropped(x.with_sides(Sides::Live(Side::Ended, theirs)));
     let partial = is_server(role);
     Receipt::Taken(Taken {
         session: next,

@@ -2,8 +2,8 @@
 use refusal::Refusal;
 use session::Asked;
 use session::Sent;
+use session::parts::fits_slot;
 use session::parts::sends;
-use session::parts::space;
 use session::parts::taken;
 use state::Session;
 ghost use mathlib.Core.Path.{_≡_};
@@ -28,12 +28,11 @@ pub fn put(x: Session, n: usize) -> Asked
     if is_barred(x) {
         return Asked::Refused(Refusal::WrongState);
     }
-    if (space(x.waiting) as usize) < n {
-        return Asked::Refused(Refusal::SlotFull);
+    if fits_slot(x.waiting, n) {
+        let waiting = x.waiting + (n as u16);
+        return taken(x.with_waiting(waiting, x.finish), Sent::Nothing);
     }
-    let mut next = x;
-    next.waiting = x.waiting + (n as u16);
-    taken(next, Sent::Nothing)
+    Asked::Refused(Refusal::SlotFull)
 }
 
 // Asks for the end of our side.
@@ -43,7 +42,5 @@ pub fn finish(x: Session) -> Asked
     if is_barred(x) {
         return Asked::Refused(Refusal::WrongState);
     }
-    let mut next = x;
-    next.finish = true;
-    taken(next, Sent::Nothing)
+    taken(x.with_waiting(x.waiting, true), Sent::Nothing)
 }

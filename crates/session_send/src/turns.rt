@@ -1,10 +1,10 @@
 // A turn for one session: whether it is ready, and the Data message that goes out.
 use ration::Ration;
+use ration::Spent;
 use refusal::Refusal;
 use session::Asked;
 use session::Sent;
 use session::parts::after_data;
-use session::parts::less;
 use session::parts::taken;
 use state::Session;
 use state::Side;
@@ -12,7 +12,7 @@ use state::Sides;
 ghost use mathlib.Core.Path.{_≡_};
 ghost use mathlib.Core.Bool.{not, false};
 ghost use mathlib.Core.List.{[], _∷_};
-ghost use Prim.Native.Nat.{_-_};
+ghost use Prim.Native.Nat.{_≤_};
 ghost use Rattle.protocol.specs.Message.{data-of};
 ghost use Rattle.protocol.specs.Plan.{check};
 ghost use Rattle.protocol.specs.Ask.{positive as Ask·positive, due as Ask·due, ready as Ask·ready, smaller as Ask·smaller, sending as Ask·sending, turnOf, turnAsk};
@@ -57,7 +57,7 @@ pub fn ready(x: Session) -> bool
 
 // The smaller of what waits and a ration.
 fn smaller(waiting: u16, r: Ration) -> u16
-    ensures { λ n. ⌜ n ≡ Ask·smaller waiting r ⌝ }
+    ensures { λ n. ⌜ (n ≡ Ask·smaller waiting r) × (n ≤ waiting) ⌝ }
 {
     match r {
         Ration::Finite(left) => {
@@ -70,13 +70,6 @@ fn smaller(waiting: u16, r: Ration) -> u16
     }
 }
 
-// What still waits after n bytes.
-fn left_after(waiting: u16, n: u16) -> u16
-    ensures { λ r. ⌜ r ≡ waiting - n ⌝ }
-{
-    if n <= waiting { waiting - n } else { 0 }
-}
-
 // The Data message of a turn.
 fn message(length: u16, opens: bool, eof: bool) -> Sent
     ensures { λ r. ⌜ sentAs r ≡ data-of length opens false eof false ∷ [] ⌝ }
@@ -84,25 +77,27 @@ fn message(length: u16, opens: bool, eof: bool) -> Sent
     Sent::Data { length, opens, eof }
 }
 
-// A Data message of n bytes goes out, and these are the rations.
-fn send(x: Session, opens: bool, theirs: Side, outbound: Ration, inbound: Ration, n: u16) -> Asked
-    ensures { λ r. ⌜ askedAs r ≡ toAsked (Ask·sending x opens theirs outbound inbound n) ⌝ }
+// A Data message goes out with as many of the bytes that wait as the ration allows.
+fn send(x: Session, opens: bool, theirs: Side, outbound: Ration, inbound: Ration) -> Asked
+    ensures { λ r. ⌜ askedAs r ≡ toAsked (Ask·sending x opens theirs outbound inbound (Ask·smaller (x .waiting) outbound)) ⌝ }
 {
-    let left = left_after(x.waiting, n);
-    let none = left == 0;
-    let eof = x.finish & none;
-    let ours = after_data(false, eof);
-    let outcome = x.outcome;
-    let spent = less(outbound, n);
-    let next = Session {
-        sides: Sides::Live(ours, theirs),
-        outbound: spent,
-        inbound,
-        waiting: left,
-        finish: x.finish & !eof,
-        outcome,
-    };
-    taken(next, message(n, opens, eof))
+    let n = smaller(x.waiting, outbound);
+    let spent = outbound.spend(n as u32);
+    match spent {
+        Spent::Left(left) => {
+            let waiting = x.waiting - n;
+            let none = waiting == 0;
+            let eof = x.finish & none;
+            let ours = after_data(false, eof);
+            let next = x.with_waiting(waiting, x.finish & !eof);
+            let counted = next.with_rations(left, inbound);
+            taken(
+                counted.with_sides(Sides::Live(ours, theirs)),
+                message(n, opens, eof),
+            )
+        }
+        Spent::NotEnough => Asked::Refused(Refusal::NothingReady),
+    }
 }
 
 // Serves a session whose own side is open.
@@ -112,8 +107,7 @@ fn turn_open(x: Session, theirs: Side) -> Asked
     let outbound = x.outbound;
     let inbound = x.inbound;
     if due(x.waiting, outbound, x.finish) {
-        let n = smaller(x.waiting, outbound);
-        return send(x, false, theirs, outbound, inbound, n);
+        return send(x, false, theirs, outbound, inbound);
     }
     Asked::Refused(Refusal::NothingReady)
 }
@@ -123,7 +117,7 @@ fn turn_of(own: Ration, far: Ration, x: Session, sides: Sides) -> Asked
 {
     match sides {
         Sides::Idle => Asked::Refused(Refusal::NothingReady),
-        Sides::Opening(_) => send(x, true, Side::Open, far, own, smaller(x.waiting, far)),
+        Sides::Opening(_) => send(x, true, Side::Open, far, own),
         Sides::Live(ours, theirs) => match ours {
             Side::Open => turn_open(x, theirs),
             Side::Finished => Asked::Refused(Refusal::NothingReady),

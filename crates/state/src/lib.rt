@@ -1,6 +1,7 @@
 // The state of one end of a connection, and what its calls answer.
 ghost use mathlib.Core.Path.{_≡_};
 ghost use Rattle.state.specs.New.{fresh};
+ghost use Rattle.state.specs.With.{withSides, withRations, withWaiting, withOutcome, withStage, withPing};
 use ration::Ration;
 use refusal::Refusal;
 use refusal::Violation;
@@ -107,6 +108,65 @@ impl Session {
         finish: false,
         outcome: Outcome::None,
     };
+
+    // The session with other sides.
+    pub fn with_sides(self, sides: Sides) -> Session
+        ensures { λ r. ⌜ r ≡ withSides sides self ⌝ }
+    {
+        let outbound = self.outbound;
+        let inbound = self.inbound;
+        let outcome = self.outcome;
+        Session {
+            sides,
+            outbound,
+            inbound,
+            waiting: self.waiting,
+            finish: self.finish,
+            outcome,
+        }
+    }
+
+    // The session with other rations.
+    pub fn with_rations(self, outbound: Ration, inbound: Ration) -> Session
+        ensures { λ r. ⌜ r ≡ withRations outbound inbound self ⌝ }
+    {
+        let sides = self.sides;
+        let outcome = self.outcome;
+        Session {
+            sides,
+            outbound,
+            inbound,
+            waiting: self.waiting,
+            finish: self.finish,
+            outcome,
+        }
+    }
+
+    // The session with so many bytes waiting, and a finish asked or not.
+    pub fn with_waiting(mut self, waiting: u16, finish: bool) -> Session
+        ensures { λ r. ⌜ r ≡ withWaiting waiting finish self ⌝ }
+    {
+        self.waiting = waiting;
+        self.finish = finish;
+        self
+    }
+
+    // The session with another outcome.
+    pub fn with_outcome(self, outcome: Outcome) -> Session
+        ensures { λ r. ⌜ r ≡ withOutcome outcome self ⌝ }
+    {
+        let sides = self.sides;
+        let outbound = self.outbound;
+        let inbound = self.inbound;
+        Session {
+            sides,
+            outbound,
+            inbound,
+            waiting: self.waiting,
+            finish: self.finish,
+            outcome,
+        }
+    }
 }
 
 impl Connection {
@@ -122,6 +182,38 @@ impl Connection {
             own: setup.header,
             last: 127,
             ping: Ping::None,
+        }
+    }
+
+    // The connection at another stage.
+    pub fn with_stage(self, stage: Stage) -> Connection
+        ensures { λ r. ⌜ r ≡ withStage stage self ⌝ }
+    {
+        let sessions = self.sessions;
+        let ping = self.ping;
+        Connection {
+            sessions,
+            stage,
+            over: self.over,
+            own: self.own,
+            last: self.last,
+            ping,
+        }
+    }
+
+    // The connection with another ping outstanding, or none.
+    pub fn with_ping(self, ping: Ping) -> Connection
+        ensures { λ r. ⌜ r ≡ withPing ping self ⌝ }
+    {
+        let sessions = self.sessions;
+        let stage = self.stage;
+        Connection {
+            sessions,
+            stage,
+            over: self.over,
+            own: self.own,
+            last: self.last,
+            ping,
         }
     }
 }

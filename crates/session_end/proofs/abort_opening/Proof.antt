@@ -4,7 +4,7 @@ use Rattle.session_end.proofs.abort_opening.Statement.{statement}
 use Rattle.session_end.proofs.abort_opening.Tie as tie
 
 returns : tie.Need-returns
-returns c = simp (c .dropped .ensures, c .before .sided .ensures, c .before .before .settled .ensures, c .before .before .before .restored .ensures)
+returns c = simp (c .dropped .ensures, c .before .with-sides .ensures, c .before .before .settled .ensures, c .before .before .before .restored .ensures)
 
 pub abort-opening-spec : {M : Type 1} → statement M
 abort-opening-spec =

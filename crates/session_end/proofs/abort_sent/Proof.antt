@@ -6,7 +6,7 @@ use Rattle.session_end.proofs.abort_sent.Tie as tie
 
 returns : tie.Need-returns
 unfolding settle
-returns c = simp (c .taken .ensures, c .before .dropped .ensures, c .before .before .sided .ensures, c .before .before .before .settled .ensures)
+returns c = simp (c .taken .ensures, c .before .dropped .ensures, c .before .before .with-sides .ensures, c .before .before .before .settled .ensures)
 
 pub abort-sent-spec : {M : Type 1} → statement M
 abort-sent-spec =

@@ -18,7 +18,7 @@ returns-3 c = simp (c .enum-told3 .given .1, c .before .before .before .sides .g
 
 returns-4 : tie.Need-returns-4
 unfolding settle
-returns-4 c = simp (c .taken .ensures, c .before .sided .ensures, c .before .before .enum-told4 .given .1, c .before .before .before .before .before .sides .given .1)
+returns-4 c = simp (c .taken .ensures, c .before .with-sides .ensures, c .before .before .enum-told4 .given .1, c .before .before .before .before .before .sides .given .1)
 
 returns-5 : tie.Need-returns-5
 unfolding settle

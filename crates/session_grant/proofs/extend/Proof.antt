@@ -11,7 +11,7 @@ unfolding settle
 returns c =
     let grow = c .before .before .before .before .before in
     let law = grant-to _ (grow .before .enum-told .given .1) (sym (grow .grow .ensures) ∙ c .before .before .before .grown .given .1) in
-    simp (c .taken .ensures, c .before .rationed .ensures, law .0, law .1)
+    simp (c .taken .ensures, c .before .with-rations .ensures, law .0, law .1)
 
 returns-2 : tie.Need-returns-2
 unfolding settle

@@ -22,7 +22,7 @@ returns-4 c = simp (c .close-to .ensures, c .before .settled2 .ensures, c .befor
 
 returns-5 : tie.Need-returns-5
 unfolding settle
-returns-5 c = simp (c .taken .ensures, c .before .sided .ensures, c .before .before .enum-told2 .given .1)
+returns-5 c = simp (c .taken .ensures, c .before .with-sides .ensures, c .before .before .enum-told2 .given .1)
 
 pub arrive-spec : {M : Type 1} → statement M
 arrive-spec =

@@ -10,11 +10,11 @@ returns c = simp (c .reply .ensures, c .before .enum-told .given .1)
 
 returns-2 : tie.Need-returns-2
 unfolding settle
-returns-2 c = simp (c .taken .ensures, c .before .sided .ensures, c .before .before .enum-told2 .given .1)
+returns-2 c = simp (c .taken .ensures, c .before .with-sides .ensures, c .before .before .enum-told2 .given .1)
 
 returns-3 : tie.Need-returns-3
 unfolding settle
-returns-3 c = simp (c .taken2 .ensures, c .before .sided2 .ensures, c .before .before .enum-told3 .given .1)
+returns-3 c = simp (c .taken2 .ensures, c .before .with-sides2 .ensures, c .before .before .enum-told3 .given .1)
 
 pub close-to-spec : {M : Type 1} → statement M
 close-to-spec =

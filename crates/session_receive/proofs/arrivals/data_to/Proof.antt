@@ -14,7 +14,7 @@ returns-2 c = simp (c .data-to-finished .ensures, c .before .enum-told2 .given .
 
 returns-3 : tie.Need-returns-3
 unfolding settle
-returns-3 c = simp (c .taken .ensures, c .before .closed .ensures, c .before .before .sided .ensures, c .before .before .before .enum-told3 .given .1)
+returns-3 c = simp (c .taken .ensures, c .before .closed .ensures, c .before .before .with-sides .ensures, c .before .before .before .enum-told3 .given .1)
 
 pub data-to-spec : {M : Type 1} → statement M
 data-to-spec =

@@ -12,7 +12,7 @@ unfolding settle
 returns c =
     let grow = c .before .before .before .before .before .before in
     let law = grow-to _ _ _ (sym (grow .grow .ensures) ∙ c .before .before .before .before .grown .given .1) in
-    simp (c .taken .ensures, c .before .rationed .ensures, c .before .before .sided .ensures, law .0, rw (law .0) at (law .1))
+    simp (c .taken .ensures, c .before .with-rations .ensures, c .before .before .with-sides .ensures, law .0, rw (law .0) at (law .1))
 
 returns-2 : tie.Need-returns-2
 unfolding settle

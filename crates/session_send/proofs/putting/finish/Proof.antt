@@ -1,4 +1,4 @@
--- `finish` meets its contract: one test, and then the finish is asked.
+-- `finish` meets its contract: the check, and then the finish is asked.
 use borrow.Author.Needs.{needs}
 use Rattle.protocol.specs.Plan.{settle}
 use Rattle.protocol.specs.Ask.{finishAsk}
@@ -12,7 +12,7 @@ returns c = simp (via (c .before .is-barred .ensures) (c .if1 .taken))
 
 returns-2 : tie.Need-returns-2
 unfolding settle finishAsk
-returns-2 c = simp (c .taken .ensures, via (c .before .before .is-barred .ensures) (c .before .if1 .left))
+returns-2 c = simp (c .taken .ensures, c .before .with-waiting .ensures, via (c .before .before .before .is-barred .ensures) (c .before .before .if1 .left))
 
 pub finish-spec : {M : Type 1} → statement M
-finish-spec = tie.close (tie.spec (λ c κs. search needs) returns (λ c κs. search needs) returns-2)
+finish-spec = tie.close (tie.spec (λ c κs. search needs) returns (λ c κs. search needs) (λ c κs. search needs) returns-2)

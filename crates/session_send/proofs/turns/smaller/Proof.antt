@@ -5,10 +5,10 @@ use Rattle.session_send.proofs.turns.smaller.Statement.{statement}
 use Rattle.session_send.proofs.turns.smaller.Tie as tie
 
 returns : tie.Need-returns
-returns c = rw (c .before .before .r .given .1) (omega arith)
+returns c = (rw (c .before .before .r .given .1) (omega arith), omega arith)
 
 returns-2 : tie.Need-returns-2
-returns-2 c = rw (c .before .before .r .given .1) (omega arith)
+returns-2 c = (rw (c .before .before .r .given .1) (omega arith), omega arith)
 
 pub smaller-spec : {M : Type 1} → statement M
 smaller-spec =

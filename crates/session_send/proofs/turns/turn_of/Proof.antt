@@ -10,7 +10,7 @@ returns c = simp (c .enum-told .given .1)
 
 returns-2 : tie.Need-returns-2
 unfolding settle
-returns-2 c = simp (c .send .ensures, c .before .smaller .ensures, c .before .before .enum-told2 .given .1)
+returns-2 c = simp (c .send .ensures, c .before .enum-told2 .given .1)
 
 returns-3 : tie.Need-returns-3
 unfolding settle
@@ -28,6 +28,6 @@ pub turn-of-spec : {M : Type 1} → statement M
 turn-of-spec =
     tie.close
     (tie.spec
-    (λ c. search needs) (λ c. search needs) (λ c κs. search needs) (λ c κs. search needs) (λ c. search needs)
+    (λ c. search needs) (λ c. search needs) (λ c κs. search needs) (λ c. search needs)
     (λ c. search needs) (λ c κs. search needs) (λ c. search needs) (λ c. search needs) returns returns-2 returns-3
     returns-4 returns-5)

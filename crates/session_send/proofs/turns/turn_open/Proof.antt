@@ -7,7 +7,7 @@ use Rattle.session_send.proofs.turns.turn_open.Tie as tie
 
 returns : tie.Need-returns
 unfolding settle
-returns c = simp (c .send .ensures, c .before .smaller .ensures, via (c .before .before .before .due .ensures) (c .before .before .if1 .taken))
+returns c = simp (c .send .ensures, via (c .before .before .due .ensures) (c .before .if1 .taken))
 
 returns-2 : tie.Need-returns-2
 unfolding settle
@@ -17,4 +17,4 @@ pub turn-open-spec : {M : Type 1} → statement M
 turn-open-spec =
     tie.close
     (tie.spec
-    (λ c κs. search needs) (λ c κs. search needs) (λ c κs. search needs) returns returns-2)
+    (λ c κs. search needs) (λ c κs. search needs) returns returns-2)
