@@ -12,7 +12,7 @@ use Rattle.laws.proofs.Lists.{elements, take-elements}
 use Rattle.wire.specs.declared.Role.{Role}
 use Rattle.wire.specs.declared.Kind.{Kind}
 use Rattle.wire.specs.declared.Named.{Named}
-use Rattle.wire.specs.declared.Named.the-variants.{Known}
+use Rattle.wire.specs.declared.Named.the-variants.{Known, Unknown}
 use Rattle.wire.specs.declared.Message.{Message}
 use Rattle.wire.specs.FirstByte.{kindOf}
 use Rattle.wire.specs.Layout.{layout, fixed, digits, initialRation, message}
@@ -44,6 +44,14 @@ module _ (from : Role) (a b c d : ℕ) where
       → m ≡ message k (a ∷ b ∷ c ∷ d ∷ []) → r ≡ allowed from k m → r ≡ parseHeader from (a ∷ b ∷ c ∷ d ∷ [])
   unfolding typed
   header-clear {k} e f p q = q ∙ ap (allowed from k) p ∙ sym (yes _ _ _ f) ∙ named e
+
+  pub header-reserved : {k : Kind} → kindOf a ≡ Known k → fixed (layout k) (a ∷ b ∷ c ∷ d ∷ []) ≡ false → violation 21 ≡ parseHeader from (a ∷ b ∷ c ∷ d ∷ [])
+  unfolding typed
+  header-reserved e f = sym (no _ _ _ f) ∙ named e
+
+  pub header-unknown : kindOf a ≡ Unknown → violation 20 ≡ parseHeader from (a ∷ b ∷ c ∷ d ∷ [])
+  unfolding typed
+  header-unknown e = named e
 
 -- ---- the input
 

@@ -1,5 +1,4 @@
 // The reader of messages.
-mod decode;
 mod kinds;
 mod layouts;
 mod messages;

@@ -1,11 +1,13 @@
 // What bytes say: the four header bytes of a message, and the message that stands first in an input.
 use crate::Parsed;
 use crate::Read;
-use crate::decode::Decoded;
-use crate::decode::decode;
+use crate::kinds::kind_of;
+use crate::layouts::message_of;
+use crate::layouts::reserved_clear;
 use refusal::Violation;
 use wire::Kind;
 use wire::Message;
+use wire::Named;
 use wire::Role;
 use wire_fields::body_length;
 use wire_fields::flags_allowed;
@@ -32,11 +34,16 @@ fn if_allowed(from: Role, kind: Kind, m: Message) -> Parsed
 pub fn parse_header(from: Role, first: u8, second: u8, third: u8, fourth: u8) -> Parsed
     ensures { λ r. ⌜ parsedAs r ≡ parseHeader from (first ∷ second ∷ third ∷ fourth ∷ []) ⌝ }
 {
-    let decoded = decode(first, second, third, fourth);
-    match decoded {
-        Decoded::Message { kind, message } => if_allowed(from, kind, message),
-        Decoded::ReservedBit => Parsed::Violated(Violation::ReservedBit),
-        Decoded::UnknownType => Parsed::Violated(Violation::UnknownType),
+    let named = kind_of(first);
+    match named {
+        Named::Known(kind) => {
+            if reserved_clear(kind, first, second, third, fourth) {
+                let message = message_of(kind, first, second, third, fourth);
+                return if_allowed(from, kind, message);
+            }
+            Parsed::Violated(Violation::ReservedBit)
+        }
+        Named::Unknown => Parsed::Violated(Violation::UnknownType),
     }
 }
 

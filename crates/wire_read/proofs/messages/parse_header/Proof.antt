@@ -1,37 +1,32 @@
--- `parse_header` meets its contract, by what the tables say and what its sender may send of it.
-use mathlib.Core.Path.{_≡_, sym, ap, _∙_}
-use Rattle.wire.specs.Message.{parseHeader}
-use Rattle.wire_read.specs.declared.decode.Decoded.{Decoded}
-use Rattle.wire_read.specs.Decoding.{decodedAs}
-use Rattle.wire_read.proofs.Decoding.{permitted, parses}
+-- `parse_header` meets its contract: one law for each way through the checks.
+use mathlib.Core.Path.{sym, _∙_}
 use borrow.Author.Needs.{needs}
+use Rattle.laws.proofs.Pick.{via}
+use Rattle.wire.proofs.Reading.{header-clear, header-reserved, header-unknown}
 use Rattle.wire_read.proofs.messages.parse_header.Statement.{statement}
 use Rattle.wire_read.proofs.messages.parse_header.Tie as tie
 
+reserved-clear-requires : tie.Need-reserved-clear-requires
+reserved-clear-requires c κs = sym (c .before .before .before .kind-of .ensures) ∙ c .before .named .given .1
+
 returns : tie.Need-returns
 returns c =
-    let decoded = c .before .before .before .before in
-    let from = decoded .before .args .from in
-    c .if-allowed .ensures ∙ ap (λ (d : Decoded). permitted from (decodedAs d)) (sym (c .before .before .decoded .given .1))
-    ∙ ap (permitted from) (decoded .decode .ensures) ∙ parses from _
+    let message = c .before in
+    let clear = message .before .before in
+    header-clear _ _ _ _ _ (sym (clear .before .before .before .before .kind-of .ensures) ∙ clear .before .before .named .given .1)
+    (via (clear .reserved-clear .ensures) (message .before .if1 .taken)) (message .message-of .ensures) (c .if-allowed .ensures)
 
 returns-2 : tie.Need-returns-2
 returns-2 c =
-    let decoded = c .before .before in
-    let from = decoded .before .args .from in
-    ap (λ (d : Decoded). permitted from (decodedAs d)) (sym (c .enum-told .given .1))
-    ∙ ap (permitted from) (decoded .decode .ensures) ∙ parses from _
+    header-reserved _ _ _ _ _ (sym (c .before .before .before .before .before .kind-of .ensures) ∙ c .before .before .before .named .given .1)
+    (via (c .before .reserved-clear .ensures) (c .if1 .left))
 
 returns-3 : tie.Need-returns-3
-returns-3 c =
-    let decoded = c .before .before in
-    let from = decoded .before .args .from in
-    ap (λ (d : Decoded). permitted from (decodedAs d)) (sym (c .enum-told2 .given .1))
-    ∙ ap (permitted from) (decoded .decode .ensures) ∙ parses from _
+returns-3 c = header-unknown _ _ _ _ _ (sym (c .before .before .kind-of .ensures) ∙ c .enum-told .given .1)
 
 pub parse-header-spec : {M : Type 1} → statement M
 parse-header-spec =
     tie.close
     (tie.spec
-    (λ c κs. search needs) (λ c. search needs) (λ c κs. search needs) (λ c. search needs) (λ c. search needs) returns
-    returns-2 returns-3)
+    (λ c κs. search needs) (λ c. search needs) reserved-clear-requires (λ c κs. search needs) (λ c κs. search needs)
+    returns (λ c. search needs) returns-2 returns-3)
