@@ -16,8 +16,9 @@ use Rattle.connection_output.proofs.Rooms.{one-message}
 use Rattle.connection_judge.specs.declared.Reply.{Reply}
 use Rattle.connection_judge.specs.declared.Reply.the-variants as reply
 use Rattle.connection_judge.specs.Verdict.{Verdict, repliesAs}
-use Rattle.connection_judge.specs.Extent.{usedIn, startIn, endIn}
-use Rattle.call_receive.specs.Concluded.{concluded}
+use Rattle.connection_judge.specs.declared.Extent.{Extent}
+use Rattle.connection_judge.specs.Extent.{extentIn}
+use Rattle.call_receive.specs.Replied.{replied}
 
 -- a part up to the end is back in its place
 back : (a : ℕ) (l p : List ℕ) → putMid a (length l - a) l p ≡ take a l ++ p
@@ -62,10 +63,9 @@ fits-twelve (reply.Only (outgoing.Message m)) = omega (arith, ap length (one-mes
 fits-twelve (reply.HeaderError n) = omega arith
 
 -- what is given, from the parts that the code computes
-pub concludes : (v : Verdict) (room : List ℕ) {used wrote start end : ℕ} {last : List ℕ} → length (bytesOfAll [] (v .outs)) ≤ length room
-    → (wrote, last) ≡ atFront (bytesOfAll [] (v .outs)) room → used ≡ usedIn (v .answer)
-    → start ≡ startIn (v .answer) → end ≡ endIn (v .answer)
-    → (record { connection = v .connection; answer = v .answer; used = used; wrote = wrote; start = start; end = end }, last) ≡ concluded v room
-concludes v room h w u s e =
+pub concludes : (v : Verdict) (room : List ℕ) {wrote : ℕ} {extent : Extent} {last : List ℕ} → length (bytesOfAll [] (v .outs)) ≤ length room
+    → (wrote, last) ≡ atFront (bytesOfAll [] (v .outs)) room → extent ≡ extentIn (v .answer)
+    → (record { connection = v .connection; answer = v .answer; used = extent .used; wrote = wrote; start = extent .start; end = extent .end }, last) ≡ replied v room
+concludes v room h w e =
     let whole = w ∙ fits (bytesOfAll [] (v .outs)) room h in
-    rw (u, s, e, ap (λ (x : ℕ × List ℕ). x .0) whole, ap (λ (x : ℕ × List ℕ). x .1) whole)
+    rw (e, ap (λ (x : ℕ × List ℕ). x .0) whole, ap (λ (x : ℕ × List ℕ). x .1) whole)

@@ -25,7 +25,7 @@ use Rattle.call_checks.specs.Gate.{gateAs, toGate, behind}
 use Rattle.state.specs.With.{withStage}
 use Rattle.call_checks.proofs.Calls.{next-check, refusing-in, sets-stage}
 use Rattle.connection_judge.specs.Verdict.{Verdict, verdict}
-use Rattle.call_receive.specs.Concluded.{concluded}
+use Rattle.call_receive.specs.Replied.{replied}
 
 -- ---- the reading
 
@@ -43,7 +43,7 @@ staged c input e h = h ∙ sym (ap (λ (s : Stage). verdict c (reading c input s
 -- ---- the call
 
 -- what a decision comes to gives what the decision gives
-same-given : (c : Connection) (room : List ℕ) (d : Decision) → concluded (verdict c d) room ≡ inRoom c room d
+same-given : (c : Connection) (room : List ℕ) (d : Decision) → replied (verdict c d) room ≡ inRoom c room d
 unfolding bytesOfAll
 same-given c room (refuse n) = refl
 same-given c room (violate b) = refl
@@ -63,11 +63,11 @@ module _ (c : Connection) (input room : List ℕ) {g : Gate} (e : gateAs g ≡ t
       ap (λ (r : Result Unit). behind r refuse (reading c input (c .stage))) (sym (ap gateAs q) ∙ e)
       ∙ by-gate refuse (reading c input (c .stage)) (receiveGate c (length room))
 
-  pub passed : {v : Verdict} {z : Given × List ℕ} → g ≡ gate.Passed → v ≡ verdict c (reading c input (c .stage)) → z ≡ concluded v room
+  pub passed : {v : Verdict} {z : Given × List ℕ} → g ≡ gate.Passed → v ≡ verdict c (reading c input (c .stage)) → z ≡ replied v room
       → z ≡ receiveCall c input room
   unfolding receiveCall
   passed q h k =
-      k ∙ ap (λ (v : Verdict). concluded v room) h ∙ same-given c room (reading c input (c .stage)) ∙ ap (inRoom c room) (decides q)
+      k ∙ ap (λ (v : Verdict). replied v room) h ∙ same-given c room (reading c input (c .stage)) ∙ ap (inRoom c room) (decides q)
 
   pub stopped : {r : Refusal} {x : Given} → g ≡ gate.Refused r → x ≡ given c [] (refuse (refusalNumber r))
       → (x, room) ≡ receiveCall c input room

@@ -1,2 +1,2 @@
 -- The definitions of what a receive gives from what it comes to.
-pub mod Concluded
+pub mod Replied

@@ -3,7 +3,7 @@ mod readings;
 mod replies;
 
 use crate::readings::read;
-use crate::replies::conclude;
+use crate::replies::replied;
 use call_checks::Gate;
 use call_checks::further;
 use call_checks::is_running;
@@ -45,7 +45,7 @@ pub fn receive(c: Connection, input: &[u8], room: &mut [u8]) -> Called
 {
     let gate = to_receive(c, room.len());
     match gate {
-        Gate::Passed => conclude(read(c, input), room),
+        Gate::Passed => replied(read(c, input), room),
         Gate::Refused(refusal) => refused(c, refusal),
     }
 }

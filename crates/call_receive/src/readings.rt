@@ -1,11 +1,10 @@
 // What stands first in the input, as what the receive comes to: a connection header first, then messages.
 use connection_judge::Judged;
 use connection_judge::Reply;
+use connection_judge::incomplete;
 use connection_judge::judge;
-use connection_judge::refused;
 use connection_judge::violated;
 use connection_output::Outgoing;
-use refusal::Refusal;
 use state::Answer;
 use state::Connection;
 use state::Stage;
@@ -44,7 +43,7 @@ fn take_header(c: Connection, role: Role, header: ReadHeader) -> Judged
                 reply,
             }
         }
-        ReadHeader::Incomplete => refused(c, Refusal::Incomplete),
+        ReadHeader::Incomplete => incomplete(c),
         ReadHeader::Violated(violation) => violated(c, violation),
     }
 }
@@ -55,7 +54,7 @@ fn take_message(c: Connection, message: Read) -> Judged
 {
     match message {
         Read::Message(m) => judge(c, m),
-        Read::Incomplete => refused(c, Refusal::Incomplete),
+        Read::Incomplete => incomplete(c),
         Read::Violated(violation) => violated(c, violation),
     }
 }

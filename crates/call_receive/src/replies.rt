@@ -1,9 +1,7 @@
 // What a receive gives: the reply is written, and the bytes used and the place of the payload follow from the answer.
 use connection_judge::Judged;
 use connection_judge::Reply;
-use connection_judge::end_of;
-use connection_judge::start_of;
-use connection_judge::used_by;
+use connection_judge::extent_of;
 use connection_output::Outgoing;
 use connection_output::write;
 use state::Called;
@@ -15,7 +13,7 @@ ghost use lib.ListN.{length};
 ghost use Rattle.protocol.specs.Result.{calledAs, bytesOfAll};
 ghost use Rattle.laws.specs.Room.{atFront};
 ghost use Rattle.connection_judge.specs.Verdict.{repliesAs, verdictAs};
-ghost use Rattle.call_receive.specs.Concluded.{concluded};
+ghost use Rattle.call_receive.specs.Replied.{replied as Replied·replied};
 
 // Writes our header and an Error behind it, 12 bytes.
 fn write_header_error(own: u16, room: &mut [u8]) -> usize
@@ -42,23 +40,21 @@ fn write_reply(reply: Reply, room: &mut [u8]) -> usize
 }
 
 // What the call gives, once its reply is written.
-pub(crate) fn conclude(judged: Judged, room: &mut [u8]) -> Called
+pub(crate) fn replied(judged: Judged, room: &mut [u8]) -> Called
     requires { ⌜ 12 ≤ length (now room) ⌝ }
-    ensures { λ r. ⌜ (calledAs r, now (room .exit)) ≡ concluded (verdictAs judged) (now (room .entry)) ⌝ }
+    ensures { λ r. ⌜ (calledAs r, now (room .exit)) ≡ Replied·replied (verdictAs judged) (now (room .entry)) ⌝ }
 {
     let connection = judged.connection;
     let answer = judged.answer;
     let reply = judged.reply;
     let wrote = write_reply(reply, room);
-    let used = used_by(answer);
-    let start = start_of(answer);
-    let end = end_of(answer);
+    let extent = extent_of(answer);
     Called {
         connection,
         answer,
-        used,
+        used: extent.used,
         wrote,
-        start,
-        end,
+        start: extent.start,
+        end: extent.end,
     }
 }

@@ -1,2 +1,2 @@
 -- What the proofs of judging share.
-pub mod Judging
+pub mod Judgments

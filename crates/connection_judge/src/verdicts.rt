@@ -12,18 +12,18 @@ use state::Stage;
 use wire::Message;
 ghost use mathlib.Core.Path.{_≡_};
 ghost use Rattle.laws.specs.Result.{ok};
-ghost use Rattle.refusal.specs.Number.{refusalNumber, violationNumber};
+ghost use Rattle.refusal.specs.Number.{violationNumber};
 ghost use Rattle.protocol.specs.Judge.{message, refuse, errorAfter, breach};
 ghost use Rattle.connection_output.specs.Outgoing.{outsAs};
 ghost use Rattle.connection_judge.specs.Verdict.{repliesAs, verdictAs, verdict};
 
-// A refusal leaves the connection as it is.
-pub fn refused(c: Connection, refusal: Refusal) -> Judged
-    ensures { λ r. ⌜ verdictAs r ≡ verdict c (refuse (refusalNumber refusal)) ⌝ }
+// The header or message is not all there: the connection stays as it is.
+pub fn incomplete(c: Connection) -> Judged
+    ensures { λ r. ⌜ verdictAs r ≡ verdict c (refuse 10) ⌝ }
 {
     Judged {
         connection: c,
-        answer: Answer::Refused(refusal),
+        answer: Answer::Refused(Refusal::Incomplete),
         reply: Reply::Only(Outgoing::Nothing),
     }
 }

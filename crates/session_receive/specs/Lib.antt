@@ -1,3 +1,2 @@
 -- The definitions of what a message received comes to.
-pub mod Move
 pub mod Receipt

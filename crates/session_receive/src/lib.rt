@@ -1,28 +1,16 @@
-// One session's step at a message received. No table of sessions is here.
-mod arrivals;
+// One session's step at each message received. No table of sessions is here.
+mod data_messages;
+mod end_messages;
 mod increments;
-mod messages;
-mod moves;
 mod replies;
 
-pub use messages::receive;
+pub use data_messages::receive_data;
+pub use end_messages::receive_abort;
+pub use end_messages::receive_acknowledgment;
+pub use end_messages::receive_close;
+pub use increments::receive_increment;
 use refusal::Violation;
 use session::Taken;
-
-// A message received for a session: an increment counts by its effective amount.
-pub enum Received {
-    Data {
-        length: u16,
-        opens: bool,
-        close: bool,
-        eof: bool,
-        ack_required: bool,
-    },
-    Increment(u32),
-    Abort(bool),
-    Close,
-    Acknowledgment,
-}
 
 // What a message received comes to for its session.
 pub enum Receipt {

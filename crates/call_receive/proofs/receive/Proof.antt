@@ -5,7 +5,7 @@ use Rattle.call_receive.proofs.Rules.{passed, stopped, roomy}
 use Rattle.call_receive.proofs.receive.Statement.{statement}
 use Rattle.call_receive.proofs.receive.Tie as tie
 
-conclude-requires : tie.Need-conclude-requires
+conclude-requires : tie.Need-replied-requires
 conclude-requires c κs =
     let gate = c .before .before in
     let start = gate .before .before in
@@ -18,7 +18,7 @@ returns c =
     let start = gate .before .before in
     let a = start .before .before .before .args in
     passed (a .c) (now (a .input)) (now (a .room)) (start .to-receive .ensures) (gate .enum-told .given .1)
-    (c .before .before .before .before .read .ensures) (c .before .before .conclude .ensures)
+    (c .before .before .before .before .read .ensures) (c .before .before .replied .ensures)
 
 returns-2 : tie.Need-returns-2
 returns-2 c =

@@ -11,7 +11,7 @@ returns c =
     header-taken (a .c) (a .role) (told .header .given .1) (c .with-stage .ensures) (c .before .answering .ensures)
 
 returns-2 : tie.Need-returns-2
-returns-2 c = rw (c .before .enum-told .given .1) (c .refused .ensures)
+returns-2 c = rw (c .before .enum-told .given .1) (c .incomplete .ensures)
 
 returns-3 : tie.Need-returns-3
 returns-3 c = rw (c .before .before .header2 .given .1) (c .violated .ensures)

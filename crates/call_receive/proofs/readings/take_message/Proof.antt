@@ -7,7 +7,7 @@ returns : tie.Need-returns
 returns c = rw (c .before .before .message .given .1) (c .judge .ensures)
 
 returns-2 : tie.Need-returns-2
-returns-2 c = rw (c .before .enum-told .given .1) (c .refused .ensures)
+returns-2 c = rw (c .before .enum-told .given .1) (c .incomplete .ensures)
 
 returns-3 : tie.Need-returns-3
 returns-3 c = rw (c .before .before .message2 .given .1) (c .violated .ensures)

@@ -1,0 +1,22 @@
+-- `judge_receipt` meets its contract: each arm is a case of `judgedBy`.
+use borrow.Author.Needs.{needs}
+use Rattle.connection_judge.proofs.Judgments.{step-taken}
+use Rattle.connection_judge.proofs.judging.judge_receipt.Statement.{statement}
+use Rattle.connection_judge.proofs.judging.judge_receipt.Tie as tie
+
+returns : tie.Need-returns
+returns c =
+    let told = c .before .before .before .before .before in
+    let a = told .before .before .args in
+    step-taken (a .c) (a .m) (a .n) (told .receipt .given .1)
+    (c .before .before .with-session .ensures) (c .before .of-session .ensures) (c .taken .ensures)
+
+returns-2 : tie.Need-returns-2
+returns-2 c = rw (c .before .before .receipt2 .given .1) (c .violated .ensures)
+
+pub judge-receipt-spec : {M : Type 1} → statement M
+judge-receipt-spec =
+    tie.close
+    (tie.spec
+    (λ c. search needs) (λ c κs. search needs) (λ c κs. search needs) (λ c κs. search needs) (λ c. search needs)
+    (λ c κs. search needs) returns returns-2)

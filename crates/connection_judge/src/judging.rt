@@ -1,0 +1,153 @@
+// What a message received does to the connection, with which reply. No bytes are here.
+use crate::Judged;
+use crate::verdicts::taken;
+use crate::verdicts::violated;
+use connection::Cause;
+use connection::ended;
+use connection::far_start;
+use connection::own_start;
+use connection::role_of;
+use connection::session_at;
+use connection::with_session;
+use connection_output::Outgoing;
+use connection_output::of_session;
+use refusal::Violation;
+use session_receive::Receipt;
+use session_receive::receive_abort;
+use session_receive::receive_acknowledgment;
+use session_receive::receive_close;
+use session_receive::receive_data;
+use session_receive::receive_increment;
+use state::Connection;
+use state::Ping;
+use wire::Message;
+use wire_fields::effective_increment;
+ghost use mathlib.Core.Path.{_≡_};
+ghost use mathlib.Core.Bool.{Bool};
+ghost use Rattle.wire.specs.declared.Message.the-variants.{PingAck};
+ghost use Rattle.protocol.specs.Message.{data-of, whole, of-session};
+ghost use Rattle.protocol.specs.Judge.{matches as Judge·matches, judgeScope, judge as Judge·judge};
+ghost use Rattle.session_receive.specs.Receipt.{receiptAs};
+ghost use Rattle.connection_judge.specs.Verdict.{verdictAs, verdict};
+ghost use Rattle.connection_judge.specs.Stepped.{judgedBy};
+
+// Whether a cookie is that of the outstanding ping.
+fn matches(ping: Ping, cookie: u16) -> bool
+    ensures { λ r. ⌜ r ≡ Judge·matches ping cookie ⌝ }
+{
+    match ping {
+        Ping::None => false,
+        Ping::Outstanding(asked) => asked == cookie,
+    }
+}
+
+// A PingAck answers the outstanding ping, and then none is outstanding.
+fn judge_ping_ack(c: Connection, cookie: u16) -> Judged
+    ensures { λ r. ⌜ verdictAs r ≡ verdict c (judgeScope c (PingAck cookie) whole) ⌝ }
+{
+    let ping = c.ping;
+    if matches(ping, cookie) {
+        let next = c.with_ping(Ping::None);
+        return taken(next, Message::PingAck { cookie }, false, Outgoing::Nothing);
+    }
+    violated(c, Violation::UnaskedPingAck)
+}
+
+// The step of a session at a message received, as what the receive comes to.
+fn judge_receipt(c: Connection, m: Message, n: u8, receipt: Receipt) -> Judged
+    ensures { λ r. ⌜ verdictAs r ≡ verdict c (judgedBy c m n (receiptAs receipt)) ⌝ }
+{
+    match receipt {
+        Receipt::Taken(t) => {
+            let x = t.session;
+            let sent = t.sent;
+            taken(with_session(c, n, x), m, t.late, of_session(n, sent))
+        }
+        Receipt::Violated(violation) => violated(c, violation),
+    }
+}
+
+// Data for the session of a number, as what the receive comes to.
+fn judge_data(
+    c: Connection,
+    m: Message,
+    session: u8,
+    length: u16,
+    opens: bool,
+    close: bool,
+    eof: bool,
+) -> Judged
+    ensures { λ r. ⌜ ((ack : Bool) → verdictAs r ≡ verdict c (judgeScope c m (of-session session (data-of length opens close eof ack)))) ⌝ }
+{
+    let stage = c.stage;
+    let role = role_of(stage);
+    let x = session_at(c, session);
+    let receipt = receive_data(
+        role,
+        own_start(c),
+        far_start(c),
+        x,
+        length,
+        opens,
+        close,
+        eof,
+    );
+    judge_receipt(c, m, session, receipt)
+}
+
+// Judges a message received: NoOperation changes nothing, Shutdown and Error end the connection, Ping gets its PingAck, and a
+// session's message is one for its session to take; an increment counts by its effective amount.
+pub fn judge(c: Connection, m: Message) -> Judged
+    ensures { λ r. ⌜ verdictAs r ≡ verdict c (Judge·judge c m) ⌝ }
+{
+    let stage = c.stage;
+    match m {
+        Message::NoOperation { .. } => taken(c, m, false, Outgoing::Nothing),
+        Message::Shutdown { .. } => {
+            let next = ended(c, Cause::ShutdownReceived);
+            taken(next, m, false, Outgoing::Nothing)
+        }
+        Message::Ping { cookie } => {
+            let ack = Outgoing::Message(Message::PingAck { cookie });
+            taken(c, m, false, ack)
+        }
+        Message::PingAck { cookie } => judge_ping_ack(c, cookie),
+        Message::Error { .. } => {
+            let next = ended(c, Cause::ErrorReceived);
+            taken(next, m, false, Outgoing::Nothing)
+        }
+        Message::IncrementRation {
+            shift,
+            session,
+            increment,
+        } => {
+            let amount = effective_increment(shift, increment);
+            let receipt = receive_increment(session_at(c, session), amount);
+            judge_receipt(c, m, session, receipt)
+        }
+        Message::Abort {
+            partial,
+            session,
+            ..
+        } => {
+            let receipt = receive_abort(role_of(stage), session_at(c, session), partial);
+            judge_receipt(c, m, session, receipt)
+        }
+        Message::Close { session } => {
+            let receipt = receive_close(role_of(stage), session_at(c, session));
+            judge_receipt(c, m, session, receipt)
+        }
+        Message::Acknowledgment { session } => {
+            let receipt = receive_acknowledgment(session_at(c, session));
+            judge_receipt(c, m, session, receipt)
+        }
+        Message::Data {
+            open,
+            close,
+            eof,
+            session,
+            length,
+            ..
+        } => { judge_data(c, m, session, length, open, close, eof) }
+    }
+}
