@@ -1,7 +1,8 @@
 """The declarations of a crate's definitions and laws, and which of them each rests on, by the names in their texts.
 
 A name is looked up in the `use` lines of its file and among the file's own declarations. A local name that is spelled like a
-declaration counts as that one, so a declaration never rests on more than is said here."""
+declaration counts as that one, so a declaration never rests on more than is said here. A contract in the code is such a text
+too, with the `ghost use` lines of its file."""
 import collections
 import re
 
@@ -10,7 +11,7 @@ MARKS = r"(?:(?:abbrev|unfoldable|pub) )*"
 TYPE = re.compile(r"\s*" + MARKS + r"(?:record|data) (\S+)")
 SEEN_INSIDE = re.compile(MARKS + r"(?:record|data|module) ")
 SIGNATURE = re.compile(r"\s*" + MARKS + r"((?:[^\s:=(){}]+ )*[^\s:=(){}]+)(?: \{[^}]*\})* :")
-USE = re.compile(r"^use Rattle·(\w+)(?:·\w+)?\.(specs|proofs)\.(\w+)(?:\.\{([^}]*)\}| as (\S+))?$", re.M)
+USE = re.compile(r"^(?:ghost )?use Rattle·(\w+)(?:·\w+)?\.(specs|proofs)\.(\w+)(?:\.\{([^}]*)\}| as ([^\s;]+))?;?$", re.M)
 NO_NAMES = {"let", "in", "where", "module", "record", "data"}
 
 
@@ -46,7 +47,7 @@ def blocks(text):
 class Declarations:
     def __init__(self, folder, crate):
         """Those of the crate of a name, whose files stand in a folder; fails where a `use` line names none of them."""
-        self.blocks, self.named = {}, {}
+        self.blocks, self.named, self.cited = {}, {}, {}
         self.used, self.modules = collections.defaultdict(dict), collections.defaultdict(dict)
         texts = {f"{path.parent.name}/{path.name}": path.read_text() for part in ("specs", "proofs") for path in folder.glob(f"{part}/*.antt")}
         for file, text in texts.items():
@@ -54,6 +55,7 @@ class Declarations:
             for at, block in enumerate(self.blocks[file]):
                 for part in block["names"]:
                     self.named[file][part].add(at)
+        texts |= {str(path.relative_to(folder)): path.read_text() for path in folder.glob("src/**/*.rt")}
         for file, text in texts.items():
             for owner, part, module, listed, alias in USE.findall(text):
                 if owner == crate:
@@ -78,19 +80,27 @@ class Declarations:
         """The declaration whose text has a part, which stands in the file once, or None."""
         return next(((file, at) for at, b in enumerate(self.blocks.get(file, [])) if text in "\n".join(b["lines"])), None)
 
-    def cited(self, key):
-        """The declarations that a declaration's text names."""
-        file, at = key
-        text = "\n".join(self.blocks[file][at]["lines"])
+    def named_in(self, file, text):
+        """The declarations that a text of a file names."""
         names = [(self.modules[file].get(module), name) for module, name in re.findall(r"([^\s(){}\[\],;.]+)\.(?=([^\s(){}\[\],;.]+))", text)]
         names += [self.used[file].get(word, (file, word)) for word in WORDS.split(text)]
         return {(source, block) for source, name in names for block in self.named.get(source, {}).get(name, ())}
 
-    def reached(self, key):
-        """A declaration and all that it rests on."""
-        seen, left = {key}, [key]
+    def cites(self, key):
+        """The declarations that a declaration names, found once."""
+        if key not in self.cited:
+            self.cited[key] = self.named_in(key[0], "\n".join(self.blocks[key[0]][key[1]]["lines"]))
+        return self.cited[key]
+
+    def reached(self, *keys):
+        """Declarations and all that they rest on."""
+        seen, left = set(keys), list(keys)
         while left:
-            new = self.cited(left.pop()) - seen
+            new = self.cites(left.pop()) - seen
             seen |= new
             left += new
         return seen
+
+    def rests_on(self, file, text):
+        """All that a text of a file rests on."""
+        return self.reached(*self.named_in(file, text))

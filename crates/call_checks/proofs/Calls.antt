@@ -4,22 +4,16 @@ use mathlib.Core.Bool.{Bool, true, false}
 use mathlib.Core.List.{List, [], _∷_}
 use Prim.Native.Nat.{ℕ, _≤_}
 use lib.ListN.{length}
-use lib.Seq.{set-getD}
 use borrow.Author.Tests.{ltb-false}
 use Rattle.laws.specs.Result.{Result, ok}
 use Rattle.laws.proofs.Results.{refused-not-ok}
 use Rattle.refusal.specs.declared.Refusal.{Refusal}
 use Rattle.refusal.specs.Number.{refusalNumber}
 use Rattle.wire.specs.declared.Message.{Message}
-use Rattle.state.specs.declared.Session.{Session}
-use Rattle.state.specs.declared.Stage.{Stage}
-use Rattle.state.specs.declared.Ping.{Ping}
 use Rattle.state.specs.declared.Connection.{Connection}
 use Rattle.protocol.specs.Plan.{Plan, stop, check, take, settle, andThen}
-use Rattle.state.specs.New.{blank}
 use Rattle.protocol.specs.Receipt.{Taken}
-use Rattle.protocol.specs.Connection.{Cause, ended}
-use Rattle.protocol.specs.Judge.{Report, done, Out, own-header, sent, Effect, refuse, accept, with-stage, with-ping, ends-by, commit}
+use Rattle.protocol.specs.Judge.{done, own-header, sent, Effect, refuse, accept, commit}
 use Rattle.protocol.specs.Call.{running, upAndRunning, roomFor}
 use Rattle.laws.specs.Room.{overlaid, atFront}
 use Rattle.protocol.specs.Result.{Given, given, bytesOfAll, inRoom, decided}
@@ -27,7 +21,6 @@ use Rattle.session.specs.Step.{toAsked}
 use Rattle.call_checks.specs.declared.Gate.{Gate}
 use Rattle.call_checks.specs.declared.Gate.the-variants as gate
 use Rattle.call_checks.specs.Gate.{gateAs, toGate, behind}
-use Rattle.state.specs.With.{withSessions, withStage, withPing}
 use Rattle.call_checks.proofs.Checks.{followedBy, gated}
 use Rattle.laws.proofs.Rooms.{fits}
 use Rattle.connection_output.proofs.Rooms.{one-message}
@@ -113,18 +106,6 @@ done-in e q = rw e q
 -- a refusal leaves the room as lent
 pub refusing-in : (c : Connection) (room : List ℕ) {x : Given} {n : ℕ} → x ≡ given c [] (refuse n) → (x, room) ≡ inRoom c room (refuse n)
 refusing-in c room e = rw e
-
--- ---- the connection after a call that sets one part of it
-
-module _ (c : Connection) (r : Report) (outs : List Out) where
-  pub sets-stage : (s : Stage) → withStage s c ≡ commit c (with-stage c s r outs)
-  sets-stage s = ap (λ (l : List Session). withStage s (withSessions l c)) (sym (set-getD (c .sessions) 0 blank))
-
-  pub sets-ping : (p : Ping) → withPing p c ≡ commit c (with-ping c p r outs)
-  sets-ping p = ap (λ (l : List Session). withPing p (withSessions l c)) (sym (set-getD (c .sessions) 0 blank))
-
-  pub sets-end : (cause : Cause) → ended cause c ≡ commit c (ends-by c cause r outs)
-  sets-end cause = ap (λ (l : List Session). ended cause (withSessions l c)) (sym (set-getD (c .sessions) 0 blank))
 
 -- ---- how many bytes are written
 

@@ -23,7 +23,8 @@ use Rattle.call_checks.specs.declared.Gate.{Gate}
 use Rattle.call_checks.specs.declared.Gate.the-variants as gate
 use Rattle.call_checks.specs.Gate.{gateAs, toGate, behind}
 use Rattle.state.specs.With.{withStage}
-use Rattle.call_checks.proofs.Calls.{next-check, refusing-in, sets-stage}
+use Rattle.call_checks.proofs.Calls.{next-check, refusing-in}
+use Rattle.connection.proofs.Effects.{sets-stage}
 use Rattle.connection_judge.specs.Verdict.{Verdict, verdict}
 use Rattle.call_receive.specs.Replied.{replied}
 

@@ -1,2 +1,3 @@
--- The laws of a table that several crates cite.
+-- The laws of a table and of the parts of a connection that several crates cite.
 pub mod Tables
+pub mod Effects

@@ -24,7 +24,7 @@ use Rattle.session_receive.specs.declared.Receipt.the-variants as receipt
 use Rattle.session_receive.specs.Receipt.{receiptAs, toReceipt}
 use Rattle.state.specs.With.{withSessions, withSession, withPing}
 use lib.Seq.{set-getD}
-use Rattle.call_checks.proofs.Calls.{sets-ping, sets-end}
+use Rattle.connection.proofs.Effects.{sets-ping, sets-end}
 use Rattle.connection_judge.specs.Verdict.{Verdict, verdict}
 use Rattle.connection_judge.specs.Stepped.{judgedBy}
 

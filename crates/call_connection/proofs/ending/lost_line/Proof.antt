@@ -7,7 +7,8 @@ use Rattle.protocol.specs.Connection.{line-lost}
 use Rattle.protocol.specs.Judge.{done, ends-by}
 use Rattle.protocol.specs.Call.{running, lostRule}
 use Rattle.protocol.specs.Result.{given, lostCall}
-use Rattle.call_checks.proofs.Calls.{passed, stopped, taken, sets-end, none}
+use Rattle.call_checks.proofs.Calls.{passed, stopped, taken, none}
+use Rattle.connection.proofs.Effects.{sets-end}
 use Rattle.call_connection.proofs.ending.lost_line.Statement.{statement}
 use Rattle.call_connection.proofs.ending.lost_line.Tie as tie
 

@@ -12,7 +12,8 @@ use Rattle.protocol.specs.Judge.{done, sent, ends-by}
 use Rattle.protocol.specs.Call.{upAndRunning, roomFor, shutdownRule}
 use Rattle.protocol.specs.Result.{given, inRoom, shutdownCall}
 use Rattle.call_checks.proofs.Checks.{one-more}
-use Rattle.call_checks.proofs.Calls.{passed, stopped, roomy, taken-in, done-in, refusing-in, sets-end, four}
+use Rattle.call_checks.proofs.Calls.{passed, stopped, roomy, taken-in, done-in, refusing-in, four}
+use Rattle.connection.proofs.Effects.{sets-end}
 use Rattle.call_connection.proofs.ending.shutdown.Statement.{statement}
 use Rattle.call_connection.proofs.ending.shutdown.Tie as tie
 

@@ -11,7 +11,8 @@ use Rattle.protocol.specs.Judge.{done, sent, with-ping}
 use Rattle.protocol.specs.Call.{upAndRunning, roomFor, isOutstanding, pingRule}
 use Rattle.protocol.specs.Result.{given, inRoom, pingCall}
 use Rattle.call_checks.proofs.Checks.{one-more}
-use Rattle.call_checks.proofs.Calls.{passed, stopped, roomy, taken-in, done-in, refusing-in, sets-ping, four}
+use Rattle.call_checks.proofs.Calls.{passed, stopped, roomy, taken-in, done-in, refusing-in, four}
+use Rattle.connection.proofs.Effects.{sets-ping}
 use Rattle.call_connection.proofs.going.ping.Statement.{statement}
 use Rattle.call_connection.proofs.going.ping.Tie as tie
 

@@ -13,7 +13,8 @@ use Rattle.protocol.specs.Judge.{done, own-header, with-stage}
 use Rattle.protocol.specs.Call.{running, roomFor, isFresh, startRule}
 use Rattle.protocol.specs.Result.{given, inRoom, startCall}
 use Rattle.call_checks.proofs.Checks.{one-more}
-use Rattle.call_checks.proofs.Calls.{passed, stopped, roomy-running, taken-in, done-in, refusing-in, sets-stage, eight}
+use Rattle.call_checks.proofs.Calls.{passed, stopped, roomy-running, taken-in, done-in, refusing-in, eight}
+use Rattle.connection.proofs.Effects.{sets-stage}
 use Rattle.call_connection.proofs.going.start.Statement.{statement}
 use Rattle.call_connection.proofs.going.start.Tie as tie
 

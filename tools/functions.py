@@ -1,0 +1,55 @@
+"""The functions of a crate's code: where each stands, what its contract says, and where its proof stands."""
+import collections
+import re
+
+FUNCTION = re.compile(r"(\s*)(?:pub(?:\(crate\))? )?(?:extern \"C\" )?fn (\w+)")
+CLAUSE = re.compile(r"\s*(?:requires|ensures)\b")
+OWNER = re.compile(r"impl(?:<[^>]*>)? (\w+)")
+
+Function = collections.namedtuple("Function", "name file lines clauses body contract text proofs")
+
+
+def proof_places(file, owner, name):
+    """Where the proof of a function may stand; that of a method stands below its type, which may be declared in the root."""
+    module = file.removeprefix("src/").removesuffix(".rt")
+    below = f"{owner}/{name}" if owner else name
+    in_root = [f"proofs/{below}/Proof.antt"] if owner or module in ("lib", "main") else []
+    return (*in_root, f"proofs/{module}/{below}/Proof.antt")
+
+
+def parts(lines, start, indent):
+    """The line of a function's first clause, and those of the braces around its body."""
+    if lines[start].endswith("}"):
+        return start, start, start
+    closed = next(i for i in range(start, len(lines)) if lines[i] == indent + "}")
+    alone = (i for i in range(start, closed) if lines[i] == indent + "{")
+    opened = next(alone, None) or next(i for i in range(start, closed) if lines[i].endswith("{"))
+    return next((i for i in range(start, opened) if CLAUSE.match(lines[i])), opened), opened, closed
+
+
+def functions_in(file, text):
+    """The functions of a file in the layout of `rt fmt`, their lines counted from 1."""
+    lines, owner = [line.split("//")[0].rstrip() for line in text.splitlines()], None
+    for start, line in enumerate(lines):
+        owner = OWNER.match(line).group(1) if OWNER.match(line) else owner
+        found = FUNCTION.match(line)
+        if found:
+            indent, name = found.groups()
+            method = owner if indent else None
+            clauses, opened, closed = parts(lines, start, indent)
+            yield Function(
+                f"{method}::{name}" if method else name,
+                file,
+                range(start + 1, closed + 2),
+                range(clauses + 1, opened + 1),
+                range(opened + 2, closed + 1),
+                "\n".join(lines[clauses:opened]),
+                "\n".join(lines[start : closed + 1]),
+                proof_places(file, method, name),
+            )
+
+
+def functions(folder):
+    """Those of the crate in a folder."""
+    paths = sorted(folder.glob("src/**/*.rt"))
+    return [function for path in paths for function in functions_in(str(path.relative_to(folder)), path.read_text())]
