@@ -1,5 +1,6 @@
 -- A line of text, and what is put behind its end.
-use Prim.Native.Nat.{ℕ, zero, suc, _+_, _/_}
+use mathlib.Core.Path.{_≡_}
+use Prim.Native.Nat.{ℕ, zero, suc, _+_, _/_, _≤_}
 use Prim.Native.Char.{code}
 use Prim.Native.String.{String, [], _∷_}
 use mathlib.Core.Bool.{Bool, cond}
@@ -40,3 +41,8 @@ lineText l = take (l .length) (l .bytes)
 -- a line with text behind its end: past 128 bytes it is cut off
 unfoldable pub added : List ℕ → List ℕ → List ℕ
 added line text = take 128 (line ++ text)
+
+-- a line with this text, whose length is that of a line
+pub record LineIs (line : Line) (text : List ℕ) : Type 0 where
+  pub reads : lineText line ≡ text
+  pub fits : line .length ≤ 128
