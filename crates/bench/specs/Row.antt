@@ -18,9 +18,10 @@ use Rattle.state.specs.New.{fresh}
 use Rattle.protocol.specs.Connection.{at, exchanged, wellFormed}
 use Rattle.protocol.specs.Judge.{Report}
 use Rattle.protocol.specs.Result.{Given, receiveCall}
+use Rattle.clock_sample.specs.declared.Clock.{Clock}
+use Rattle.clock_sample.specs.Clock.{newClock, sampleRule}
 use Rattle.clock_limit.specs.declared.Setting.{Setting}
-use Rattle.clock_sample.specs.Clock.{newClock}
-use Rattle.clock_limit.specs.Claims.{limitsAfter}
+use Rattle.clock_limit.specs.Limit.{limitRule}
 
 -- the ration that a row looks at: of a session, for what it receives or for what it sends
 pub data Watched : Type 0 where
@@ -94,6 +95,13 @@ pub record Receives (c : Connection) (w : Watched) (before : Ration) (input : Li
   pub running : c .over ≡ false
   pub ration : rationAt w c ≡ before
   pub comes : came w (receiveCall c input room) ≡ must
+
+-- ---- limits
+
+-- the limits after each of the samples
+unfoldable pub limitsAfter : Setting → Clock → List ℕ → List (Result Float)
+limitsAfter setting clock [] = []
+limitsAfter setting clock (R ∷ Rs) = let next = sampleRule clock R .1 in limitRule next setting ∷ limitsAfter setting next Rs
 
 -- ---- what a row claims
 
