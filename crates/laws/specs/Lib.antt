@@ -3,3 +3,4 @@ pub mod Pick
 pub mod Result
 pub mod Circle
 pub mod Runs
+pub mod Codes

@@ -47,7 +47,7 @@ use Rattle.wire.specs.declared.Role.{Role}
 use Rattle.wire.proofs.Role as F
 use Rattle.wire.proofs.Role.Laws as F′
 use Rattle.capture_rules.specs.Place.{stepAt, stepAs}
-use Rattle.capture_reader.specs.Capture.{opened, firstPlace}
+use Rattle.capture_reader.specs.Capture.{readerAtFirst, firstPlace}
 use Rattle.capture_rules.specs.declared.Next.{Next}
 use Rattle.capture_reader.specs.declared.Reader.{Reader}
 use Rattle.capture_rules.specs.declared.Step.{Step}
@@ -101,7 +101,7 @@ module _ {M : Type 1} (𝓤 : URA M) (H : Heap 𝓤) (A : Atoms 𝓤) (W : Given
 
   -- the reader that `new` makes
   abbrev h : Reader
-  h = opened s
+  h = readerAtFirst s
 
   -- ---- the call of `new`: what it is passed, what it asks and what is known of its result
 

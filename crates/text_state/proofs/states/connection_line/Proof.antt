@@ -3,7 +3,8 @@ use mathlib.Core.List.{List}
 use mathlib.Core.Path.{ap}
 use Prim.Native.Nat.{ℕ}
 use borrow.Author.Needs.{needs}
-use Rattle.text_line.specs.Line.{codes, added}
+use Rattle.laws.specs.Codes.{codes}
+use Rattle.text_line.specs.Line.{added}
 use Rattle.text_line.proofs.Lines.{added-twice, same-text}
 use Rattle.text_state.proofs.states.connection_line.Statement.{statement}
 use Rattle.text_state.proofs.states.connection_line.Tie as tie

@@ -3,7 +3,8 @@ use mathlib.Core.Path.{sym, ap}
 use mathlib.Core.List.{List, _++_}
 use Prim.Native.Nat.{ℕ}
 use borrow.Author.Needs.{needs}
-use Rattle.text_line.specs.Line.{codes, decimal, lineText, added, item}
+use Rattle.laws.specs.Codes.{codes}
+use Rattle.text_line.specs.Line.{decimal, lineText, added}
 use Rattle.text_state.specs.States.{countsText}
 use Rattle.state.specs.declared.Sides.{Sides}
 use Rattle.text_line.proofs.Lines.{added-twice, same-text}
