@@ -69,9 +69,9 @@ abbrev pub room : List ℕ
 room = replicate 12 0
 
 -- each receive gets the connection that the last one left
-unfoldable pub after : Connection → List (List ℕ) → Connection
-after c [] = c
-after c (input ∷ inputs) = after (receiveCall c input room .0 .connection) inputs
+unfoldable pub connectionAfter : Connection → List (List ℕ) → Connection
+connectionAfter c [] = c
+connectionAfter c (input ∷ inputs) = connectionAfter (receiveCall c input room .0 .connection) inputs
 
 abbrev pub rationAt : Watched → Connection → Ration
 rationAt (inbound n) c = at c n .inbound
@@ -109,7 +109,7 @@ unfoldable pub holds : Row → Type 0
 holds (header bytes must) = granted (readConnectionHeader bytes) ≡ must
 holds (message from bytes must) = followed bytes (readMessage from bytes) ≡ must
 holds (message-of-either bytes must) = (from : Role) → followed bytes (readMessage from bytes) ≡ must
-holds (received end earlier w before input must) = Receives (after (fresh end) earlier) w before input must
+holds (received end earlier w before input must) = Receives (connectionAfter (fresh end) earlier) w before input must
 holds (limits setting samples must) = limitsAfter setting newClock samples ≡ must
 
 -- a claim about each row of a list

@@ -13,9 +13,9 @@ use Rattle.clock_limit.specs.declared.Setting.the-variants.{Measured}
 use Rattle.clock_limit.specs.Limit.{goodSetting, limitUnder, limitRule}
 
 -- the clock after the samples, taken or refused
-unfoldable pub after : Clock → List ℕ → Clock
-after clock [] = clock
-after clock (R ∷ Rs) = after (sampleRule clock R .1) Rs
+unfoldable pub clockAfter : Clock → List ℕ → Clock
+clockAfter clock [] = clock
+clockAfter clock (R ∷ Rs) = clockAfter (sampleRule clock R .1) Rs
 
 -- no good sample and no good setting is refused, and a measured limit lies between floor and ceiling
 pub record Sound (clock : Clock) : Type 0 where
@@ -26,4 +26,4 @@ pub record Sound (clock : Clock) : Type 0 where
 
 -- a clock just made is sound after any samples
 abbrev pub SoundAfterAny : Type 0
-SoundAfterAny = (Rs : List ℕ) → Sound (after newClock Rs)
+SoundAfterAny = (Rs : List ℕ) → Sound (clockAfter newClock Rs)
