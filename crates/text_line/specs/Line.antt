@@ -36,7 +36,7 @@ lineText l = take (l .length) (l .bytes)
 unfoldable pub added : List ℕ → List ℕ → List ℕ
 added line text = take 128 (line ++ text)
 
--- a line with this text, whose length is that of a line
+-- the line has this text, and its length stays within its 128 bytes
 pub record LineIs (line : Line) (text : List ℕ) : Type 0 where
   pub reads : lineText line ≡ text
   pub fits : line .length ≤ 128
