@@ -15,8 +15,7 @@ use Rattle.protocol.specs.Result.{bytesOfAll, receiveCall}
 use Rattle.clock_numbers.specs.Arithmetic.{whole, 0·75, 0·25, 0·875, 0·125}
 use Rattle.clock_sample.specs.Clock.{newClock, first, later, updated, goodClock, sampleRule}
 use Rattle.clock_limit.specs.Limit.{goodSetting, measured, limitRule}
-use Rattle.clock_limit.specs.Claims.{limitsAfter}
-use Rattle.bench.specs.Row.{after, holds, All}
+use Rattle.bench.specs.Row.{connectionAfter, limitsAfter, holds, All}
 use Rattle.bench.specs.Table.{table}
 
 -- one row, and the rows behind it
@@ -28,7 +27,7 @@ pub every-row : All holds table
 unfolding pick fromHeader kindOf readMessage parseHeader typed allowed effectiveIncrement readConnectionHeader parseConnectionHeader settle
     wellFormed allFormed sessionFormed receipt judge receiveRule bytesOfAll receiveCall
     limitsAfter newClock first later updated goodClock sampleRule goodSetting measured limitRule whole 0·75 0·25 0·875 0·125 ofInt add sub mul div lt le
-    after holds All
+    connectionAfter holds All
 every-row =
     -- 1
     refl and refl and refl

@@ -18,9 +18,10 @@ use Rattle.state.specs.New.{fresh}
 use Rattle.protocol.specs.Connection.{at, exchanged, wellFormed}
 use Rattle.protocol.specs.Judge.{Report}
 use Rattle.protocol.specs.Result.{Given, receiveCall}
+use Rattle.clock_sample.specs.declared.Clock.{Clock}
+use Rattle.clock_sample.specs.Clock.{newClock, sampleRule}
 use Rattle.clock_limit.specs.declared.Setting.{Setting}
-use Rattle.clock_sample.specs.Clock.{newClock}
-use Rattle.clock_limit.specs.Claims.{limitsAfter}
+use Rattle.clock_limit.specs.Limit.{limitRule}
 
 -- the ration that a row looks at: of a session, for what it receives or for what it sends
 pub data Watched : Type 0 where
@@ -68,9 +69,9 @@ abbrev pub room : List ℕ
 room = replicate 12 0
 
 -- each receive gets the connection that the last one left
-unfoldable pub after : Connection → List (List ℕ) → Connection
-after c [] = c
-after c (input ∷ inputs) = after (receiveCall c input room .0 .connection) inputs
+unfoldable pub connectionAfter : Connection → List (List ℕ) → Connection
+connectionAfter c [] = c
+connectionAfter c (input ∷ inputs) = connectionAfter (receiveCall c input room .0 .connection) inputs
 
 abbrev pub rationAt : Watched → Connection → Ration
 rationAt (inbound n) c = at c n .inbound
@@ -95,13 +96,20 @@ pub record Receives (c : Connection) (w : Watched) (before : Ration) (input : Li
   pub ration : rationAt w c ≡ before
   pub comes : came w (receiveCall c input room) ≡ must
 
+-- ---- limits
+
+-- the limits after each of the samples
+unfoldable pub limitsAfter : Setting → Clock → List ℕ → List (Result Float)
+limitsAfter setting clock [] = []
+limitsAfter setting clock (R ∷ Rs) = let next = sampleRule clock R .1 in limitRule next setting ∷ limitsAfter setting next Rs
+
 -- ---- what a row claims
 
 unfoldable pub holds : Row → Type 0
 holds (header bytes must) = granted (readConnectionHeader bytes) ≡ must
 holds (message from bytes must) = followed bytes (readMessage from bytes) ≡ must
 holds (message-of-either bytes must) = (from : Role) → followed bytes (readMessage from bytes) ≡ must
-holds (received end earlier w before input must) = Receives (after (fresh end) earlier) w before input must
+holds (received end earlier w before input must) = Receives (connectionAfter (fresh end) earlier) w before input must
 holds (limits setting samples must) = limitsAfter setting newClock samples ≡ must
 
 -- a claim about each row of a list

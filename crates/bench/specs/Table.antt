@@ -23,8 +23,8 @@ abbrev pub server : Setup
 server = record { role = Server; header = 1 }
 
 -- a client's header with the number 125, which grants 32,000; it opens session 5 with no bytes
-abbrev pub opened : List (List ℕ)
-opened = (0x4A ∷ 0x6D ∷ 0x75 ∷ 0x78 ∷ 0x01 ∷ 0x00 ∷ 0x7D ∷ 0x00 ∷ []) ∷ (0x90 ∷ 0x05 ∷ 0x00 ∷ 0x00 ∷ []) ∷ []
+abbrev pub header-and-open : List (List ℕ)
+header-and-open = (0x4A ∷ 0x6D ∷ 0x75 ∷ 0x78 ∷ 0x01 ∷ 0x00 ∷ 0x7D ∷ 0x00 ∷ []) ∷ (0x90 ∷ 0x05 ∷ 0x00 ∷ 0x00 ∷ []) ∷ []
 
 -- Data of n bytes, no flag set, all zeros; and an increment of n, unshifted
 abbrev pub data-for-5 : ℕ → List ℕ
@@ -35,11 +35,11 @@ increment-for-5 n = 0x10 ∷ 0x05 ∷ n / 256 ∷ n % 256 ∷ []
 
 -- Data of 256 spends what our header grants
 abbrev pub spent : List (List ℕ)
-spent = opened ++ (data-for-5 256 ∷ [])
+spent = header-and-open ++ (data-for-5 256 ∷ [])
 
 -- 65,535 times 16,384, twice, and 120 more than 32,000: 2,147,483,000
 abbrev pub raised : List (List ℕ)
-raised = opened ++ ((0x1E ∷ 0x05 ∷ 0xFF ∷ 0xFF ∷ []) ∷ (0x1E ∷ 0x05 ∷ 0xFF ∷ 0xFF ∷ []) ∷ increment-for-5 120 ∷ [])
+raised = header-and-open ++ ((0x1E ∷ 0x05 ∷ 0xFF ∷ 0xFF ∷ []) ∷ (0x1E ∷ 0x05 ∷ 0xFF ∷ 0xFF ∷ []) ∷ increment-for-5 120 ∷ [])
 
 -- taken, not late: these bytes are used, nothing is written
 abbrev pub takes : (used : ℕ) → Message → Ration → Came
@@ -73,9 +73,9 @@ table =
     ∷ message-of-either (0x01 ∷ 0x00 ∷ 0x00 ∷ 0x00 ∷ []) (violation 20)
     ∷ message-of-either (0x04 ∷ 0x80 ∷ 0x00 ∷ 0x00 ∷ []) (violation 21)
     -- 4: at ration 256 Data of 256 leaves 0; of 257 gives 26; of 0 at ration 0 is taken
-    ∷ received server opened (inbound 5) (Finite 256) (data-for-5 256)
+    ∷ received server header-and-open (inbound 5) (Finite 256) (data-for-5 256)
     (takes 260 (Data false false false false 5 256) (Finite 0))
-    ∷ received server opened (inbound 5) (Finite 256) (data-for-5 257) (breaks 26 (Finite 256))
+    ∷ received server header-and-open (inbound 5) (Finite 256) (data-for-5 257) (breaks 26 (Finite 256))
     ∷ received server spent (inbound 5) (Finite 0) (data-for-5 0) (takes 4 (Data false false false false 5 0) (Finite 0))
     -- 5: at outbound 2,147,483,000, 647 more are taken, 648 more give 27
     ∷ received server raised (outbound 5) (Finite 2_147_483_000) (increment-for-5 647)

@@ -1,3 +1,4 @@
 -- The law of the reader of captures, and what the proofs by hand share.
 pub mod Laws
 mod Held
+mod Lent

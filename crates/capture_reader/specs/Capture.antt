@@ -13,8 +13,8 @@ abbrev pub firstPlace : ℕ
 firstPlace = 8
 
 -- a reader at the first message of a capture
-abbrev pub opened : RefT (List ℕ) → Reader
-opened capture = record { capture = capture; place = firstPlace }
+abbrev pub readerAtFirst : RefT (List ℕ) → Reader
+readerAtFirst capture = record { capture = capture; place = firstPlace }
 
 -- what stands at a reader's place, and the reader at the place to read on from
 abbrev pub advanced : Role → Reader → Result Message × Reader

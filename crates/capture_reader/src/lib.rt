@@ -5,7 +5,7 @@ use capture_step::next_at;
 use wire::Role;
 ghost use mathlib.Core.Path.{_≡_};
 ghost use Rattle.capture_rules.specs.Place.{stepAt, nextAs, stepAs};
-ghost use Rattle.capture_reader.specs.Capture.{opened, advanced};
+ghost use Rattle.capture_reader.specs.Capture.{firstPlace, readerAtFirst, advanced};
 
 // The place of the first message, behind the connection header, which is not read here.
 pub const FIRST_PLACE: usize = 8;
@@ -19,7 +19,7 @@ pub struct Reader<'a> {
 impl<'a> Reader<'a> {
     // A reader at the first message of a capture.
     pub fn new(capture: &'a [u8]) -> Reader<'a>
-        ensures { λ r. ⌜ r ≡ opened (capture .entry) ⌝ }
+        ensures { λ r. ⌜ r ≡ readerAtFirst (capture .entry) ⌝ }
     {
         Reader {
             capture,
@@ -37,7 +37,19 @@ impl<'a> Reader<'a> {
     }
 }
 
-// What a reader of a capture finds at a place, for a sender.
+// What a reader of a capture finds first, for a sender, and the place to read on from.
+pub fn read_first(capture: &[u8], from: Role) -> Step
+    ensures { λ r. ⌜ stepAs r ≡ stepAt from (now (capture .entry)) firstPlace ⌝ }
+{
+    let mut reader = Reader::new(capture);
+    let next = reader.next(from);
+    Step {
+        next,
+        place: reader.place,
+    }
+}
+
+// What a reader of a capture finds at a place, for a sender, and the place to read on from.
 pub fn read_at(capture: &[u8], from: Role, place: usize) -> Step
     ensures { λ r. ⌜ stepAs r ≡ stepAt from (now (capture .entry)) place ⌝ }
 {

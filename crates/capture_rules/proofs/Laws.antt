@@ -21,7 +21,7 @@ use Rattle.wire.proofs.Inverse.{header-parsed}
 use Rattle.wire.proofs.Laws.{message-holds, read-written, write-read, read-writable}
 use Rattle.wire.proofs.Writing.{writable-has}
 use Rattle.capture_rules.specs.Place.{messageAt, placeAfter}
-use Rattle.capture_rules.specs.Reading.{Whole, written, Reading, wholeAt, andThen, readUpTo, readAll, EachWritable, Exact}
+use Rattle.capture_rules.specs.Reading.{Whole, wholeBytes, Reading, wholeAt, prepended, readUpTo, readAll, EachWritable, Exact}
 use Rattle.capture_rules.proofs.Steps.{within}
 
 -- what a capture with a message at a place has there
@@ -76,11 +76,11 @@ module _ (from : Role) (s : List ℕ) (bytes : Bytes s) where
         ap (λ (l : List ℕ). header m ++ take (bodyLength m) l) (sym (drop-drop 4 place s))
         ∙ write-read from (drop place s) m (bytes-from place) (at .reads)
 
-    one-more : (r : Reading) → Exact from s (place + 4 + bodyLength m) r → Exact from s place (andThen s place (ok m) r)
+    one-more : (r : Reading) → Exact from s (place + 4 + bodyLength m) r → Exact from s place (prepended s place (ok m) r)
     one-more r x =
         let k = 4 + bodyLength m in
         let j = r .end - (place + 4 + bodyLength m) in
-        let w = written (r .messages) in
+        let w = wholeBytes (r .messages) in
         let all : length (header m ++ (body ++ w)) ≡ 4 + (bodyLength m + length w) =
         length-append (header m) (body ++ w)
         ∙ ap (λ (n : ℕ). 4 + n) (length-append body w ∙ ap (λ (n : ℕ). n + length w) body-length) in
@@ -109,7 +109,7 @@ module _ (from : Role) (s : List ℕ) (bytes : Bytes s) where
   up-to-exact zero place h = none place (λ m e. let l = stands from s place m e .long in omega arith)
   up-to-exact (suc n) place h = go (messageAt from s place) refl (up-to-exact n)
     where
-      go : (r : Result Message) → messageAt from s place ≡ r → Enough n → Exact from s place (andThen s place r (readUpTo n from s (placeAfter place r)))
+      go : (r : Result Message) → messageAt from s place ≡ r → Enough n → Exact from s place (prepended s place r (readUpTo n from s (placeAfter place r)))
       go (ok m) e enough = one-more place m e _ (enough (place + 4 + bodyLength m) (omega arith))
       go (refused i) e enough = none place (λ m q. refused-not-ok (sym e ∙ q))
       go (violation i) e enough = none place (λ m q. violation-not-ok (sym e ∙ q))
@@ -122,18 +122,18 @@ module _ (from : Role) (s : List ℕ) (bytes : Bytes s) where
 
 module _ (from : Role) (s : List ℕ) where
   -- a message that is written at a place, with others behind it
-  module _ (place : ℕ) (w : Whole) (ws : List Whole) (tail : List ℕ) (each : EachWritable from (w ∷ ws)) (e : drop place s ≡ written (w ∷ ws) ++ tail) where
+  module _ (place : ℕ) (w : Whole) (ws : List Whole) (tail : List ℕ) (each : EachWritable from (w ∷ ws)) (e : drop place s ≡ wholeBytes (w ∷ ws) ++ tail) where
     abbrev m : Message
     m = w .message
 
     abbrev behind : List ℕ
-    behind = written ws ++ tail
+    behind = wholeBytes ws ++ tail
 
     apart : drop place s ≡ header m ++ (w .body ++ behind)
     apart =
         e
-        ∙ append-assoc (header m) (w .body ++ written ws) tail
-        ∙ ap (λ (l : List ℕ). header m ++ l) (append-assoc (w .body) (written ws) tail)
+        ∙ append-assoc (header m) (w .body ++ wholeBytes ws) tail
+        ∙ ap (λ (l : List ℕ). header m ++ l) (append-assoc (w .body) (wholeBytes ws) tail)
 
     long : place + (4 + length (w .body)) ≤ length s
     long =
@@ -169,23 +169,23 @@ module _ (from : Role) (s : List ℕ) where
         ∙ drop-append-add (header m) (w .body ++ behind) (length (w .body))
         ∙ drop-append-seam (w .body) behind
 
-    end-same : (end : ℕ) → end ≡ place + length (written (w ∷ ws)) → end ≡ place + 4 + bodyLength m + length (written ws)
+    end-same : (end : ℕ) → end ≡ place + length (wholeBytes (w ∷ ws)) → end ≡ place + 4 + bodyLength m + length (wholeBytes ws)
     end-same end q =
-        omega (arith, length-append (header m) (w .body ++ written ws), length-append (w .body) (written ws), body-same)
+        omega (arith, length-append (header m) (w .body ++ wholeBytes ws), length-append (w .body) (wholeBytes ws), body-same)
 
   none-only : (n place : ℕ) → ((m : Message) → messageAt from s place ≡ ok m → ⊥) → record { messages = []; end = place } ≡ readUpTo n from s place
   unfolding readUpTo
   none-only zero place refuses = refl
   none-only (suc n) place refuses = go (messageAt from s place) refl
     where
-      go : (r : Result Message) → messageAt from s place ≡ r → record { messages = []; end = place } ≡ andThen s place r (readUpTo n from s (placeAfter place r))
+      go : (r : Result Message) → messageAt from s place ≡ r → record { messages = []; end = place } ≡ prepended s place r (readUpTo n from s (placeAfter place r))
       go (ok m) e = absurd (refuses m e)
       go (refused i) e = refl
       go (violation i) e = refl
 
   -- messages that are written one after the other from a place on, up to an end where none stands, are what is read
   up-to-only : (ws : List Whole) (n place end : ℕ) (tail : List ℕ) → length s ≤ place + n → EachWritable from ws
-      → drop place s ≡ written ws ++ tail → end ≡ place + length (written ws) → ((m : Message) → messageAt from s end ≡ ok m → ⊥)
+      → drop place s ≡ wholeBytes ws ++ tail → end ≡ place + length (wholeBytes ws) → ((m : Message) → messageAt from s end ≡ ok m → ⊥)
       → record { messages = ws; end = end } ≡ readUpTo n from s place
   unfolding readUpTo
   up-to-only [] n place end tail h each e q refuses =
@@ -197,8 +197,8 @@ module _ (from : Role) (s : List ℕ) where
       let rest =
       up-to-only ws n after end tail (omega arith) (each .2) (next-same place w ws tail each e) (end-same place w ws tail each e end q) refuses in
       ap (λ (x : Whole). record { messages = x ∷ ws; end = end }) (whole-same place w ws tail each e)
-      ∙ ap (andThen s place (ok (w .message))) rest
-      ∙ ap (λ (r : Result Message). andThen s place r (readUpTo n from s (placeAfter place r))) (stands-there place w ws tail each e)
+      ∙ ap (prepended s place (ok (w .message))) rest
+      ∙ ap (λ (r : Result Message). prepended s place r (readUpTo n from s (placeAfter place r))) (stands-there place w ws tail each e)
 
   all-only : (place : ℕ) (r : Reading) → Exact from s place r → r ≡ readAll from s place
   unfolding readAll

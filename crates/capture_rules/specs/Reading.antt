@@ -16,9 +16,9 @@ pub record Whole : Type 0 where
   pub body : List ℕ
 
 -- the bytes of messages that are written one after the other
-abbrev pub written : List Whole → List ℕ
-written [] = []
-written (w ∷ ws) = header (w .message) ++ (w .body ++ written ws)
+abbrev pub wholeBytes : List Whole → List ℕ
+wholeBytes [] = []
+wholeBytes (w ∷ ws) = header (w .message) ++ (w .body ++ wholeBytes ws)
 
 -- the messages that were read, and the place where reading stopped
 pub record Reading : Type 0 where
@@ -30,16 +30,16 @@ abbrev pub wholeAt : List ℕ → ℕ → Message → Whole
 wholeAt capture place m = record { message = m; body = take (bodyLength m) (drop (place + 4) capture) }
 
 -- a message stands before what is read after it, and a refusal ends the reading
-abbrev pub andThen : List ℕ → ℕ → Result Message → Reading → Reading
-andThen capture place (ok m) rest = record { messages = wholeAt capture place m ∷ rest .messages; end = rest .end }
-andThen capture place (refused n) rest = record { messages = []; end = place }
-andThen capture place (violation n) rest = record { messages = []; end = place }
+abbrev pub prepended : List ℕ → ℕ → Result Message → Reading → Reading
+prepended capture place (ok m) rest = record { messages = wholeAt capture place m ∷ rest .messages; end = rest .end }
+prepended capture place (refused n) rest = record { messages = []; end = place }
+prepended capture place (violation n) rest = record { messages = []; end = place }
 
 -- reading from a place: no message past a refusal, and no more than so many
 unfoldable pub readUpTo : ℕ → Role → List ℕ → ℕ → Reading
 readUpTo zero from capture place = record { messages = []; end = place }
 readUpTo (suc n) from capture place =
-    andThen capture place (messageAt from capture place)
+    prepended capture place (messageAt from capture place)
     (readUpTo n from capture (placeAfter place (messageAt from capture place)))
 
 -- reading from a place until the first refusal: a capture has no more messages than bytes
@@ -57,6 +57,6 @@ EachWritable from (w ∷ ws) =
 -- the messages' bytes, one after the other, are the capture's from the place up to the end, and there no message stands
 pub record Exact (from : Role) (s : List ℕ) (place : ℕ) (r : Reading) : Type 0 where
   pub each : EachWritable from (r .messages)
-  pub bytes : written (r .messages) ≡ take (r .end - place) (drop place s)
-  pub ends : r .end ≡ place + length (written (r .messages))
+  pub bytes : wholeBytes (r .messages) ≡ take (r .end - place) (drop place s)
+  pub ends : r .end ≡ place + length (wholeBytes (r .messages))
   pub stops : (m : Message) → messageAt from s (r .end) ≡ ok m → ⊥

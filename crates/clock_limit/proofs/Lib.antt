@@ -1,4 +1,3 @@
 -- The laws of the limit for a ping.
 pub mod Answers
-pub mod Cases
 pub mod Samples

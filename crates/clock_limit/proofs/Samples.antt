@@ -13,7 +13,7 @@ use Rattle.clock_sample.specs.Clock.{newClock, goodClock, sampleRule}
 use Rattle.clock_sample.proofs.State.{new-good, sample-good}
 use Rattle.clock_limit.specs.declared.Setting.the-variants.{Measured}
 use Rattle.clock_limit.specs.Limit.{goodSetting, measured, limitRule}
-use Rattle.clock_limit.specs.Claims.{after, Sound, SoundAfterAny}
+use Rattle.clock_limit.specs.Claims.{clockAfter, Sound, SoundAfterAny}
 
 floor-below-ceiling : (floor ceiling : Float) → goodSetting (Measured floor ceiling) ≡ true → le floor ceiling ≡ true
 unfolding goodSetting
@@ -26,10 +26,10 @@ good-is-sound clock c = record {
   between = λ floor ceiling s. held-between floor ceiling (floor-below-ceiling floor ceiling s) (measured clock);
 }
 
-pub after-good : (clock : Clock) (Rs : List ℕ) → goodClock clock ≡ true → goodClock (after clock Rs) ≡ true
-unfolding after
+pub after-good : (clock : Clock) (Rs : List ℕ) → goodClock clock ≡ true → goodClock (clockAfter clock Rs) ≡ true
+unfolding clockAfter
 after-good clock [] c = c
 after-good clock (R ∷ Rs) c = after-good (sampleRule clock R .1) Rs (sample-good clock R c)
 
 pub sound-after-any : SoundAfterAny
-sound-after-any Rs = good-is-sound (after newClock Rs) (after-good newClock Rs new-good)
+sound-after-any Rs = good-is-sound (clockAfter newClock Rs) (after-good newClock Rs new-good)

@@ -4,8 +4,8 @@ use mathlib.Core.Bool.{true}
 use mathlib.Core.List.{List, [], _∷_}
 use Prim.Native.Nat.{ℕ}
 use lib.Ieee.{Float}
-use Rattle.laws.specs.Result.{Result, ok}
-use Rattle.clock_numbers.specs.Arithmetic.{_⊘_, whole, Between}
+use Rattle.laws.specs.Result.{ok}
+use Rattle.clock_numbers.specs.Arithmetic.{whole, Between}
 use Rattle.clock_sample.specs.declared.Clock.{Clock}
 use Rattle.clock_sample.specs.Clock.{newClock, updated, goodSample, sampleRule}
 use Rattle.clock_limit.specs.declared.Setting.{Setting}
@@ -13,14 +13,9 @@ use Rattle.clock_limit.specs.declared.Setting.the-variants.{Measured}
 use Rattle.clock_limit.specs.Limit.{goodSetting, limitUnder, limitRule}
 
 -- the clock after the samples, taken or refused
-unfoldable pub after : Clock → List ℕ → Clock
-after clock [] = clock
-after clock (R ∷ Rs) = after (sampleRule clock R .1) Rs
-
--- the limits after each of the samples
-unfoldable pub limitsAfter : Setting → Clock → List ℕ → List (Result Float)
-limitsAfter setting clock [] = []
-limitsAfter setting clock (R ∷ Rs) = let next = sampleRule clock R .1 in limitRule next setting ∷ limitsAfter setting next Rs
+unfoldable pub clockAfter : Clock → List ℕ → Clock
+clockAfter clock [] = clock
+clockAfter clock (R ∷ Rs) = clockAfter (sampleRule clock R .1) Rs
 
 -- no good sample and no good setting is refused, and a measured limit lies between floor and ceiling
 pub record Sound (clock : Clock) : Type 0 where
@@ -31,10 +26,4 @@ pub record Sound (clock : Clock) : Type 0 where
 
 -- a clock just made is sound after any samples
 abbrev pub SoundAfterAny : Type 0
-SoundAfterAny = (Rs : List ℕ) → Sound (after newClock Rs)
-
--- case 7: samples 100, 100, 180, wide limits: 300, 250, 302.5
-abbrev pub Case7 : Type 0
-Case7 =
-    limitsAfter (Measured (whole 1) (whole 60_000)) newClock (100 ∷ 100 ∷ 180 ∷ [])
-    ≡ ok (whole 300) ∷ ok (whole 250) ∷ ok (whole 605 ⊘ whole 2) ∷ []
+SoundAfterAny = (Rs : List ℕ) → Sound (clockAfter newClock Rs)

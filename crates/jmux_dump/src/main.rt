@@ -4,7 +4,10 @@
 // message is looked up in the published tables, its place is the sum of the lengths before it, and none of the lines is
 // copied from a run.
 use capture_reader::FIRST_PLACE;
+use capture_reader::read_at;
+use capture_reader::read_first;
 use capture_rules::Next;
+use capture_rules::Step;
 use libc::STDERR_FILENO;
 use libc::STDIN_FILENO;
 use libc::STDOUT_FILENO;
@@ -82,9 +85,8 @@ fn put_header(capture: &[u8]) {
     }
 }
 
-// What stands at a place: a message, or the refusal that ends the reading.
-fn put_next(capture: &[u8], from: Role, place: usize) -> Turn {
-    let step = capture_reader::read_at(capture, from, place);
+// A line of what stands at a place: a message, or the refusal that ends the reading.
+fn put_step(place: usize, step: Step) -> Turn {
     let next = step.next;
     let more = match next {
         Next::Message(m) => put_message(place, m),
@@ -99,13 +101,10 @@ fn put_next(capture: &[u8], from: Role, place: usize) -> Turn {
 
 // Each message until the first refusal, which keeps its place.
 fn put_messages(capture: &[u8], from: Role) {
-    let mut turn = Turn {
-        place: FIRST_PLACE,
-        more: true,
-    };
+    let mut turn = put_step(FIRST_PLACE, read_first(capture, from));
     let mut turns = u64::MAX;
     while turns > 0 && turn.more {
-        turn = put_next(capture, from, turn.place);
+        turn = put_step(turn.place, read_at(capture, from, turn.place));
         turns -= 1;
     }
 }

@@ -4,3 +4,4 @@ pub mod Result
 pub mod Room
 pub mod Circle
 pub mod Runs
+pub mod Codes

@@ -23,7 +23,8 @@ use Rattle.script_lines.specs.declared.Line.the-variants as line
 use Rattle.script_lines.specs.declared.Beginning.{Beginning}
 use Rattle.script_lines.specs.declared.Beginning.the-variants as beginning
 use Rattle.script_lines.specs.Names.{nameOf}
-use Rattle.script_words.specs.Words.{codes, headOf, tailOf, hasMore, same}
+use Rattle.laws.specs.Codes.{codes}
+use Rattle.script_words.specs.Words.{headOf, tailOf, hasMore, same}
 use Rattle.script_words.specs.Numbers.{numberOf, idFrom, shortFrom, sizeFrom}
 use Rattle.script_words.specs.Hex.{isBytes}
 

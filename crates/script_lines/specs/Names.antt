@@ -3,7 +3,8 @@ use Prim.Native.Nat.{ℕ}
 use Prim.Native.String.{String}
 use mathlib.Core.List.{List, [], _∷_}
 use Rattle.laws.specs.Pick.{pick}
-use Rattle.script_words.specs.Words.{codes, same}
+use Rattle.laws.specs.Codes.{codes}
+use Rattle.script_words.specs.Words.{same}
 use Rattle.script_lines.specs.declared.Name.{Name}
 use Rattle.script_lines.specs.declared.Name.the-variants.{Start, Open, Put, Finish, Turn, Grant, Abort, Close, Ping, Shutdown, Lost, Receive, State, Queue, Unknown}
 

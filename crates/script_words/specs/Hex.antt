@@ -5,7 +5,8 @@ use mathlib.Core.List.{List, [], _∷_, _++_}
 use lib.Dec.{eqb, ltb, leb}
 use lib.ListN.{length, take, drop}
 use Rattle.laws.specs.Pick.{pick}
-use Rattle.script_words.specs.Words.{codes, same}
+use Rattle.laws.specs.Codes.{codes}
+use Rattle.script_words.specs.Words.{same}
 
 -- the value of a digit: 48 to 57 are 0 to 9, 97 to 102 are 10 to 15, and 16 says that it is none
 unfoldable pub digitOf : ℕ → ℕ

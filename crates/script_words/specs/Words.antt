@@ -1,19 +1,11 @@
 -- The words of a line.
 use Prim.Native.Nat.{ℕ, _+_}
-use Prim.Native.Char.{code}
-use Prim.Native.String as string
-use Prim.Native.String.{String}
 use mathlib.Core.Bool.{Bool, true, false, _&&_}
 use mathlib.Core.List.{List, [], _∷_}
 use lib.Dec.{eqb, ltb}
 use lib.ListN.{length, take, drop, getD}
 use Rattle.bytes.specs.Bytes.{indexOf}
 use Rattle.laws.specs.Pick.{pick}
-
--- the codes of a word's characters
-abbrev pub codes : String → List ℕ
-codes string.[] = []
-codes (string._∷_ c s) = code c ∷ codes s
 
 -- the text up to the first space
 unfoldable pub headOf : List ℕ → List ℕ

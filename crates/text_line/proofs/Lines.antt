@@ -8,7 +8,8 @@ use lib.Dec.{leb}
 use lib.ListN.{length, take}
 use lib.Seq.{length-take-le, take-all, take-length, take-append-add, take-paste, paste}
 use borrow.Author.Tests.{leb-true, leb-false}
-use Rattle.text_line.specs.Line.{added}
+use Rattle.text_line.specs.declared.Line.{Line}
+use Rattle.text_line.specs.Line.{lineText, added, LineIs}
 
 -- what is cut off may be cut off twice
 take-twice : (k : ℕ) (a b : List ℕ) → take k (take k a ++ b) ≡ take k (a ++ b)
@@ -16,9 +17,14 @@ take-twice zero a b = refl
 take-twice (suc k) [] b = refl
 take-twice (suc k) (x ∷ a) b = ap (λ (l : List ℕ). x ∷ l) (take-twice k a b)
 
-pub added-twice : {p q : List ℕ} (l a b : List ℕ) → p ≡ added l a → q ≡ added p b → q ≡ added l (a ++ b)
+-- a line with a text is one with the same text in other words
+pub same-text : {line : Line} {a b : List ℕ} → LineIs line a → a ≡ b → LineIs line b
+same-text h e = record { reads = h .reads ∙ e; fits = h .fits }
+
+pub added-twice : {p q : Line} (l a b : List ℕ) → LineIs p (added l a) → LineIs q (added (lineText p) b) → LineIs q (added l (a ++ b))
 unfolding added
-added-twice l a b e f = f ∙ ap (λ (p : List ℕ). take 128 (p ++ b)) e ∙ take-twice 128 (l ++ a) b ∙ ap (take 128) (append-assoc l a b)
+added-twice l a b e f =
+    same-text f (ap (λ (p : List ℕ). take 128 (p ++ b)) (e .reads) ∙ take-twice 128 (l ++ a) b ∙ ap (take 128) (append-assoc l a b))
 
 -- no more elements are taken than there are
 take-min : (k : ℕ) (a : List ℕ) → take (min k (length a)) a ≡ take k a

@@ -1,20 +1,15 @@
 -- A line of text, and what is put behind its end.
-use Prim.Native.Nat.{ℕ, zero, suc, _+_, _/_}
-use Prim.Native.Char.{code}
-use Prim.Native.String.{String, [], _∷_}
+use mathlib.Core.Path.{_≡_}
+use Prim.Native.Nat.{ℕ, zero, suc, _+_, _/_, _≤_}
+use Prim.Native.String.{String}
 use mathlib.Core.Bool.{Bool, cond}
-use mathlib.Core.List as list
-use mathlib.Core.List.{List, _++_}
+use mathlib.Core.List.{List, [], _++_}
 use lib.Dec.{ltb}
 use lib.ListN.{take}
 use Rattle.io.specs.Digits.{digits}
+use Rattle.laws.specs.Codes.{codes}
 use Rattle.laws.specs.Pick.{pick}
 use Rattle.text_line.specs.declared.Line.{Line}
-
--- the codes of a text's characters
-abbrev pub codes : String → List ℕ
-codes [] = list.[]
-codes (c ∷ s) = list._∷_ (code c) (codes s)
 
 -- how many decimal digits a number has, at most k + 1
 unfoldable pub places : ℕ → ℕ → ℕ
@@ -26,12 +21,12 @@ unfoldable pub decimal : ℕ → List ℕ
 decimal n = digits 10 (places 19 n) n
 
 -- an item's name and value
-abbrev pub item : String → ℕ → List ℕ
-item name value = codes name ++ decimal value
+abbrev pub itemText : String → ℕ → List ℕ
+itemText name value = codes name ++ decimal value
 
 -- a flag's name, where it is set
-abbrev pub flag : String → Bool → List ℕ
-flag name set = cond set (codes name) list.[]
+abbrev pub flagText : String → Bool → List ℕ
+flagText name set = cond set (codes name) []
 
 -- what stands behind a line's end is no text and the program's choice; a length above 128 is a full line's
 abbrev pub lineText : Line → List ℕ
@@ -40,3 +35,8 @@ lineText l = take (l .length) (l .bytes)
 -- a line with text behind its end: past 128 bytes it is cut off
 unfoldable pub added : List ℕ → List ℕ → List ℕ
 added line text = take 128 (line ++ text)
+
+-- the line has this text, and its length stays within its 128 bytes
+pub record LineIs (line : Line) (text : List ℕ) : Type 0 where
+  pub reads : lineText line ≡ text
+  pub fits : line .length ≤ 128

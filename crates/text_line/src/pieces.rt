@@ -6,7 +6,7 @@ ghost use mathlib.Core.Bool.{cond};
 ghost use mathlib.Core.List.{[], _++_};
 ghost use lib.ListN.{length, take};
 ghost use lib.Seq.{paste};
-ghost use Rattle.text_line.specs.Line.{decimal, lineText, added};
+ghost use Rattle.text_line.specs.Line.{decimal, lineText, added, LineIs};
 
 // The first n bytes, or all where there are fewer.
 pub fn first(bytes: &[u8], n: usize) -> &[u8]
@@ -38,7 +38,7 @@ fn copied(bytes: [u8; 128], at: usize, words: &[u8], n: usize) -> [u8; 128]
 impl Line {
     // A line with no text.
     pub fn new() -> Line
-        ensures { λ r. ⌜ lineText r ≡ [] ⌝ }
+        ensures { λ r. ⌜ LineIs r [] ⌝ }
     {
         Line {
             bytes: [0u8; 128],
@@ -48,7 +48,7 @@ impl Line {
 
     // The line with words behind its end; what does not fit is cut off.
     pub fn text(self, words: &[u8]) -> Line
-        ensures { λ r. ⌜ lineText r ≡ added (lineText self) (now (words .entry)) ⌝ }
+        ensures { λ r. ⌜ LineIs r (added (lineText self) (now (words .entry))) ⌝ }
     {
         let at = least(self.length, 128);
         let n = least(words.len(), 128 - at);
@@ -61,7 +61,7 @@ impl Line {
 
     // The line with a number behind its end, in decimal.
     pub fn number(self, n: u64) -> Line
-        ensures { λ r. ⌜ lineText r ≡ added (lineText self) (decimal n) ⌝ }
+        ensures { λ r. ⌜ LineIs r (added (lineText self) (decimal n)) ⌝ }
     {
         let mut digits = [0u8; 20];
         let k = io::decimal(n, &mut digits);
@@ -70,14 +70,14 @@ impl Line {
 
     // The line with the name and the value of an item behind its end.
     pub fn item(self, name: &[u8], value: u64) -> Line
-        ensures { λ r. ⌜ lineText r ≡ added (lineText self) (now (name .entry) ++ decimal value) ⌝ }
+        ensures { λ r. ⌜ LineIs r (added (lineText self) (now (name .entry) ++ decimal value)) ⌝ }
     {
         self.text(name).number(value)
     }
 
     // The line with the name of a flag behind its end, where the flag is set.
     pub fn flag(self, name: &[u8], set: bool) -> Line
-        ensures { λ r. ⌜ lineText r ≡ added (lineText self) (cond set (now (name .entry)) []) ⌝ }
+        ensures { λ r. ⌜ LineIs r (added (lineText self) (cond set (now (name .entry)) [])) ⌝ }
     {
         if set {
             return self.text(name);

@@ -3,19 +3,19 @@ use Prim.Native.Nat.{ℕ}
 use mathlib.Core.List.{List, _++_}
 use Rattle.wire.specs.declared.Message.{Message}
 use Rattle.wire.specs.declared.Message.the-variants.{NoOperation, Shutdown, Ping, PingAck, Error, IncrementRation, Abort, Close, Acknowledgment, Data}
-use Rattle.text_line.specs.Line.{item, flag}
+use Rattle.text_line.specs.Line.{itemText, flagText}
 
 abbrev pub messageText : Message → List ℕ
-messageText (NoOperation length) = item "noop length " length
-messageText (Shutdown length) = item "shutdown length " length
-messageText (Ping cookie) = item "ping cookie " cookie
-messageText (PingAck cookie) = item "pingack cookie " cookie
-messageText (Error length) = item "error length " length
+messageText (NoOperation length) = itemText "noop length " length
+messageText (Shutdown length) = itemText "shutdown length " length
+messageText (Ping cookie) = itemText "ping cookie " cookie
+messageText (PingAck cookie) = itemText "pingack cookie " cookie
+messageText (Error length) = itemText "error length " length
 messageText (IncrementRation shift session increment) =
-    item "increment id " session ++ item " shift " shift ++ item " increment " increment
-messageText (Abort partial session length) = item "abort id " session ++ flag " partial" partial ++ item " length " length
-messageText (Close session) = item "close id " session
-messageText (Acknowledgment session) = item "ack id " session
+    itemText "increment id " session ++ itemText " shift " shift ++ itemText " increment " increment
+messageText (Abort partial session length) = itemText "abort id " session ++ flagText " partial" partial ++ itemText " length " length
+messageText (Close session) = itemText "close id " session
+messageText (Acknowledgment session) = itemText "ack id " session
 messageText (Data opens close eof ack session length) =
-    item "data id " session ++ flag " open" opens ++ flag " close" close ++ flag " eof" eof ++ flag " ack" ack
-    ++ item " length " length
+    itemText "data id " session ++ flagText " open" opens ++ flagText " close" close ++ flagText " eof" eof ++ flagText " ack" ack
+    ++ itemText " length " length

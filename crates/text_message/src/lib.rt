@@ -1,13 +1,12 @@
 // The words of a message, put behind the end of a line of text.
 use text_line::Line;
 use wire::Message;
-ghost use mathlib.Core.Path.{_≡_};
 ghost use Rattle.wire.specs.declared.Message.the-variants.{IncrementRation, Abort, Data};
-ghost use Rattle.text_line.specs.Line.{lineText, added};
+ghost use Rattle.text_line.specs.Line.{lineText, added, LineIs};
 ghost use Rattle.text_message.specs.Message.{messageText};
 
 fn increment(line: Line, shift: u8, session: u8, increment: u16) -> Line
-    ensures { λ r. ⌜ lineText r ≡ added (lineText line) (messageText (IncrementRation shift session increment)) ⌝ }
+    ensures { λ r. ⌜ LineIs r (added (lineText line) (messageText (IncrementRation shift session increment))) ⌝ }
 {
     line.item(b"increment id ", session as u64)
         .item(b" shift ", shift as u64)
@@ -15,7 +14,7 @@ fn increment(line: Line, shift: u8, session: u8, increment: u16) -> Line
 }
 
 fn abort(line: Line, partial: bool, session: u8, length: u16) -> Line
-    ensures { λ r. ⌜ lineText r ≡ added (lineText line) (messageText (Abort partial session length)) ⌝ }
+    ensures { λ r. ⌜ LineIs r (added (lineText line) (messageText (Abort partial session length))) ⌝ }
 {
     line.item(b"abort id ", session as u64)
         .flag(b" partial", partial)
@@ -31,7 +30,7 @@ fn data(
     session: u8,
     length: u16,
 ) -> Line
-    ensures { λ r. ⌜ lineText r ≡ added (lineText line) (messageText (Data opens close eof ack session length)) ⌝ }
+    ensures { λ r. ⌜ LineIs r (added (lineText line) (messageText (Data opens close eof ack session length))) ⌝ }
 {
     line.item(b"data id ", session as u64)
         .flag(b" open", opens)
@@ -43,7 +42,7 @@ fn data(
 
 // The line with the words of a message behind its end.
 pub fn with_message(line: Line, m: Message) -> Line
-    ensures { λ r. ⌜ lineText r ≡ added (lineText line) (messageText m) ⌝ }
+    ensures { λ r. ⌜ LineIs r (added (lineText line) (messageText m)) ⌝ }
 {
     match m {
         Message::NoOperation { length } => line.item(b"noop length ", length as u64),

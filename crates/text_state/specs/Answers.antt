@@ -6,17 +6,18 @@ use Rattle.refusal.specs.Number.{refusalNumber, violationNumber}
 use Rattle.wire.specs.declared.Message.{Message}
 use Rattle.state.specs.declared.Answer.{Answer}
 use Rattle.state.specs.declared.Answer.the-variants as answer
-use Rattle.text_line.specs.Line.{codes, item, flag}
+use Rattle.laws.specs.Codes.{codes}
+use Rattle.text_line.specs.Line.{itemText, flagText}
 use Rattle.text_message.specs.Message.{messageText}
 
 -- a message that was taken, and how many bytes of the input
 abbrev pub takenText : Message → Bool → ℕ → List ℕ
-takenText m late used = codes " ok " ++ messageText m ++ flag " late" late ++ item " used " used
+takenText m late used = codes " ok " ++ messageText m ++ flagText " late" late ++ itemText " used " used
 
 abbrev pub answerText : Answer → ℕ → List ℕ
 answerText answer.Done used = codes " ok"
-answerText (answer.Served n) used = item " ok id " n
-answerText (answer.Header far) used = item " ok header " far ++ item " used " used
+answerText (answer.Served n) used = itemText " ok id " n
+answerText (answer.Header far) used = itemText " ok header " far ++ itemText " used " used
 answerText (answer.Message m late) used = takenText m late used
-answerText (answer.Refused r) used = item " refused " (refusalNumber r)
-answerText (answer.Violated v) used = item " refused " (violationNumber v)
+answerText (answer.Refused r) used = itemText " refused " (refusalNumber r)
+answerText (answer.Violated v) used = itemText " refused " (violationNumber v)

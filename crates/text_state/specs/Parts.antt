@@ -11,7 +11,8 @@ use Rattle.state.specs.declared.Side.{Side}
 use Rattle.state.specs.declared.Side.the-variants as side
 use Rattle.state.specs.declared.Sides.{Sides}
 use Rattle.state.specs.declared.Sides.the-variants as sides
-use Rattle.text_line.specs.Line.{codes, decimal}
+use Rattle.laws.specs.Codes.{codes}
+use Rattle.text_line.specs.Line.{decimal}
 
 abbrev pub roleText : Role → List ℕ
 roleText role.Client = codes " client"

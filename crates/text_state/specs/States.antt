@@ -16,26 +16,27 @@ use Rattle.state.specs.declared.Sides.the-variants as sides
 use Rattle.state.specs.declared.Stage.{Stage}
 use Rattle.state.specs.declared.Stage.the-variants as stage
 use Rattle.text_state.specs.Parts.{roleText, sidesText, outcomeText, rationText}
-use Rattle.text_line.specs.Line.{codes, item, flag}
+use Rattle.laws.specs.Codes.{codes}
+use Rattle.text_line.specs.Line.{itemText, flagText}
 
 -- ---- a connection
 
 abbrev pub stageText : Stage → List ℕ
 stageText (stage.Fresh r) = roleText r ++ codes " fresh"
 stageText stage.Started = codes " client started"
-stageText (stage.Up r far) = roleText r ++ item " up " far
+stageText (stage.Up r far) = roleText r ++ itemText " up " far
 
 abbrev pub pingText : Ping → List ℕ
 pingText ping.None = codes " ping none"
-pingText (ping.Outstanding cookie) = item " ping " cookie
+pingText (ping.Outstanding cookie) = itemText " ping " cookie
 
 abbrev pub connectionText : Connection → List ℕ
-connectionText c = codes "connection" ++ stageText (c .stage) ++ flag " over" (c .over) ++ item " last " (c .last) ++ pingText (c .ping)
+connectionText c = codes "connection" ++ stageText (c .stage) ++ flagText " over" (c .over) ++ itemText " last " (c .last) ++ pingText (c .ping)
 
 -- ---- a session
 
 abbrev pub waitingText : ℕ → Bool → List ℕ
-waitingText n finish = item " waiting " n ++ flag " finish" finish
+waitingText n finish = itemText " waiting " n ++ flagText " finish" finish
 
 -- the inbound ration counts where their side is open
 abbrev pub inText : Side → Ration → List ℕ
@@ -58,7 +59,7 @@ countsText (sides.Opening b) x = waitingText (x .waiting) (x .finish)
 countsText (sides.Live ours theirs) x = liveText ours theirs x
 
 abbrev pub sessionText : ℕ → Session → List ℕ
-sessionText n x = item "session " n ++ sidesText (x .sides) ++ outcomeText (x .outcome) ++ countsText (x .sides) x
+sessionText n x = itemText "session " n ++ sidesText (x .sides) ++ outcomeText (x .outcome) ++ countsText (x .sides) x
 
 -- ---- which sessions are told of
 

@@ -3,13 +3,12 @@ use state::Answer;
 use text_line::Line;
 use text_message::with_message;
 use wire::Message;
-ghost use mathlib.Core.Path.{_≡_};
-ghost use Rattle.text_line.specs.Line.{lineText, added};
+ghost use Rattle.text_line.specs.Line.{lineText, added, LineIs};
 ghost use Rattle.text_state.specs.Answers.{takenText, answerText};
 
 // The line with a message that was taken behind its end.
 fn taken(line: Line, m: Message, late: bool, used: usize) -> Line
-    ensures { λ r. ⌜ lineText r ≡ added (lineText line) (takenText m late used) ⌝ }
+    ensures { λ r. ⌜ LineIs r (added (lineText line) (takenText m late used)) ⌝ }
 {
     with_message(line.text(b" ok "), m)
         .flag(b" late", late)
@@ -18,7 +17,7 @@ fn taken(line: Line, m: Message, late: bool, used: usize) -> Line
 
 // The line with what a call answers behind its end.
 pub fn answered(line: Line, answer: Answer, used: usize) -> Line
-    ensures { λ r. ⌜ lineText r ≡ added (lineText line) (answerText answer used) ⌝ }
+    ensures { λ r. ⌜ LineIs r (added (lineText line) (answerText answer used)) ⌝ }
 {
     match answer {
         Answer::Done => line.text(b" ok"),

@@ -5,12 +5,11 @@ use state::Side;
 use state::Sides;
 use text_line::Line;
 use wire::Role;
-ghost use mathlib.Core.Path.{_≡_};
-ghost use Rattle.text_line.specs.Line.{lineText, added};
+ghost use Rattle.text_line.specs.Line.{lineText, added, LineIs};
 ghost use Rattle.text_state.specs.Parts.{roleText, sideText, sidesText, outcomeText, rationText};
 
 pub(crate) fn with_role(line: Line, role: Role) -> Line
-    ensures { λ r. ⌜ lineText r ≡ added (lineText line) (roleText role) ⌝ }
+    ensures { λ r. ⌜ LineIs r (added (lineText line) (roleText role)) ⌝ }
 {
     match role {
         Role::Client => line.text(b" client"),
@@ -19,7 +18,7 @@ pub(crate) fn with_role(line: Line, role: Role) -> Line
 }
 
 pub(crate) fn with_side(line: Line, side: Side) -> Line
-    ensures { λ r. ⌜ lineText r ≡ added (lineText line) (sideText side) ⌝ }
+    ensures { λ r. ⌜ LineIs r (added (lineText line) (sideText side)) ⌝ }
 {
     match side {
         Side::Open => line.text(b" open"),
@@ -29,7 +28,7 @@ pub(crate) fn with_side(line: Line, side: Side) -> Line
 }
 
 pub(crate) fn with_sides(line: Line, sides: Sides) -> Line
-    ensures { λ r. ⌜ lineText r ≡ added (lineText line) (sidesText sides) ⌝ }
+    ensures { λ r. ⌜ LineIs r (added (lineText line) (sidesText sides)) ⌝ }
 {
     match sides {
         Sides::Idle => line.text(b" idle none"),
@@ -39,7 +38,7 @@ pub(crate) fn with_sides(line: Line, sides: Sides) -> Line
 }
 
 pub(crate) fn with_outcome(line: Line, outcome: Outcome) -> Line
-    ensures { λ r. ⌜ lineText r ≡ added (lineText line) (outcomeText outcome) ⌝ }
+    ensures { λ r. ⌜ LineIs r (added (lineText line) (outcomeText outcome)) ⌝ }
 {
     match outcome {
         Outcome::None => line.text(b" outcome none"),
@@ -51,7 +50,7 @@ pub(crate) fn with_outcome(line: Line, outcome: Outcome) -> Line
 }
 
 pub(crate) fn with_ration(line: Line, ration: Ration) -> Line
-    ensures { λ r. ⌜ lineText r ≡ added (lineText line) (rationText ration) ⌝ }
+    ensures { λ r. ⌜ LineIs r (added (lineText line) (rationText ration)) ⌝ }
 {
     match ration {
         Ration::Finite(n) => line.number(n as u64),

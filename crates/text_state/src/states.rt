@@ -14,11 +14,11 @@ use state::Stage;
 use text_line::Line;
 ghost use mathlib.Core.Path.{_≡_};
 ghost use mathlib.Core.List.{[]};
-ghost use Rattle.text_line.specs.Line.{lineText, added};
+ghost use Rattle.text_line.specs.Line.{lineText, added, LineIs};
 ghost use Rattle.text_state.specs.States.{stageText, pingText, connectionText, waitingText, inText, outText, liveText, sessionText, hasOutcome, shownBy};
 
 fn with_stage(line: Line, stage: Stage) -> Line
-    ensures { λ r. ⌜ lineText r ≡ added (lineText line) (stageText stage) ⌝ }
+    ensures { λ r. ⌜ LineIs r (added (lineText line) (stageText stage)) ⌝ }
 {
     match stage {
         Stage::Fresh(role) => with_role(line, role).text(b" fresh"),
@@ -28,7 +28,7 @@ fn with_stage(line: Line, stage: Stage) -> Line
 }
 
 fn with_ping(line: Line, ping: Ping) -> Line
-    ensures { λ r. ⌜ lineText r ≡ added (lineText line) (pingText ping) ⌝ }
+    ensures { λ r. ⌜ LineIs r (added (lineText line) (pingText ping)) ⌝ }
 {
     match ping {
         Ping::None => line.text(b" ping none"),
@@ -38,7 +38,7 @@ fn with_ping(line: Line, ping: Ping) -> Line
 
 // The line of a connection.
 pub fn connection_line(c: Connection) -> Line
-    ensures { λ r. ⌜ lineText r ≡ added [] (connectionText c) ⌝ }
+    ensures { λ r. ⌜ LineIs r (added [] (connectionText c)) ⌝ }
 {
     let stage = c.stage;
     let ping = c.ping;
@@ -49,13 +49,13 @@ pub fn connection_line(c: Connection) -> Line
 }
 
 fn with_out(line: Line, ration: Ration) -> Line
-    ensures { λ r. ⌜ lineText r ≡ added (lineText line) (outText ration) ⌝ }
+    ensures { λ r. ⌜ LineIs r (added (lineText line) (outText ration)) ⌝ }
 {
     with_ration(line.text(b" out "), ration)
 }
 
 fn with_in(line: Line, theirs: Side, ration: Ration) -> Line
-    ensures { λ r. ⌜ lineText r ≡ added (lineText line) (inText theirs ration) ⌝ }
+    ensures { λ r. ⌜ LineIs r (added (lineText line) (inText theirs ration)) ⌝ }
 {
     match theirs {
         Side::Open => with_ration(line.text(b" in "), ration),
@@ -65,7 +65,7 @@ fn with_in(line: Line, theirs: Side, ration: Ration) -> Line
 }
 
 fn with_waiting(line: Line, waiting: u16, finish: bool) -> Line
-    ensures { λ r. ⌜ lineText r ≡ added (lineText line) (waitingText waiting finish) ⌝ }
+    ensures { λ r. ⌜ LineIs r (added (lineText line) (waitingText waiting finish)) ⌝ }
 {
     line.item(b" waiting ", waiting as u64)
         .flag(b" finish", finish)
@@ -73,7 +73,7 @@ fn with_waiting(line: Line, waiting: u16, finish: bool) -> Line
 
 // The line with what counts of a session with two sides behind its end.
 fn with_live(line: Line, ours: Side, theirs: Side, x: Session) -> Line
-    ensures { λ r. ⌜ lineText r ≡ added (lineText line) (liveText ours theirs x) ⌝ }
+    ensures { λ r. ⌜ LineIs r (added (lineText line) (liveText ours theirs x)) ⌝ }
 {
     let outbound = x.outbound;
     let inbound = x.inbound;
@@ -89,7 +89,7 @@ fn with_live(line: Line, ours: Side, theirs: Side, x: Session) -> Line
 
 // The line of a session by its number.
 pub fn session_line(n: u8, x: Session) -> Line
-    ensures { λ r. ⌜ lineText r ≡ added [] (sessionText n x) ⌝ }
+    ensures { λ r. ⌜ LineIs r (added [] (sessionText n x)) ⌝ }
 {
     let sides = x.sides;
     let outcome = x.outcome;

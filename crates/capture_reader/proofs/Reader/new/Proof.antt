@@ -30,7 +30,7 @@ use denote.Triple.Spec.{Meets, tripleOf}
 use denote.Triple.Table.{entered}
 use denote.Triple.Walked.{says, Stays, stay-none-slice, walkOf, goes-none-slice, Walks, ends-at, walked, walk-meets}
 use denote.Exit.{yes}
-use Rattle.capture_reader.specs.Capture.{opened}
+use Rattle.capture_reader.specs.Capture.{readerAtFirst}
 use Rattle.capture_reader.proofs.Held.{slice-val, SliceOwn, twice, holds}
 use Rattle.capture_reader.proofs.Reader.Laws as T′
 use Rattle.capture_reader.proofs.Reader.new.Key.{name as #new}
@@ -49,14 +49,14 @@ module _ {M : Type 1} (𝓤 : URA M) (H : Heap 𝓤) (A : Atoms 𝓤) (W : Given
   abbrev Post : Val → SProp 𝓤
   Post = walkOf 𝓤 H A new.ended stayed (new.clauses 𝓤 H A mem run) .post (((κ, tt), (q, tt), tt, (s, tt), at), tt)
 
-  exits : ent 𝓤 (onEntry 𝓤 H A new.signature (κ, tt) (q, tt) (s, tt) at) (Post (T′.lowered (opened s)))
+  exits : ent 𝓤 (onEntry 𝓤 H A new.signature (κ, tt) (q, tt) (s, tt) at) (Post (T′.lowered (readerAtFirst s)))
   exits =
       qed W ((‵ (flft κ q) ⊛ ‵ ftrue) ∷ ‵ (owns (ShrSlice (named 0) κ u8 ∷ []) (s, tt) at) ∷ []) ∵
       suffices ! _ (ends-at 𝓤 H A new.ended stayed (new.clauses 𝓤 H A mem run) W (((κ, tt), (q, tt), tt, (s, tt), at), tt)
-      (T′.lowered (opened s)) (opened s) (tt, tt) (tt, tt)) $ says ! refl $
+      (T′.lowered (readerAtFirst s)) (readerAtFirst s) (tt, tt) (tt, tt)) $ says ! refl $
       -- the token; the parameter; the reader
       frame ! $ fsplit ! $ use1 W (‵ (SliceOwn κ s) ⊛ ‵ (SliceOwn κ s)) (twice 𝓤 H A W κ s) $ split ! $ move ! (0 ∷ 2 ∷ []) $ fjoin ! $ frame ! $
-      by ! (holds 𝓤 H A W (namedLft 1 0 tt (κ, tt)) (opened s) (lit< tt))
+      by ! (holds 𝓤 H A W (namedLft 1 0 tt (κ, tt)) (readerAtFirst s) (lit< tt))
 
   module _ (C : Calls 𝓤 H) (Λ : Loops 𝓤 H) where
     walk : Is (ShrSlice (named 0) κ u8) s (slice-val s ∷ [])

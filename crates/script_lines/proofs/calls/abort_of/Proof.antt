@@ -2,7 +2,8 @@
 use mathlib.Core.Path.{sym, _∙_}
 use borrow.Author.Needs.{needs}
 use Rattle.script_words.proofs.Texts.{told}
-use Rattle.script_words.specs.Words.{codes, same}
+use Rattle.laws.specs.Codes.{codes}
+use Rattle.script_words.specs.Words.{same}
 use Rattle.script_lines.specs.Calls.{abortLine}
 use Rattle.laws.proofs.Pick.{yes, no}
 use Rattle.script_lines.proofs.calls.abort_of.Statement.{statement}

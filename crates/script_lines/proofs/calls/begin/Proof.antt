@@ -3,7 +3,8 @@ use mathlib.Core.Path.{sym, ap, _∙_}
 use borrow.Author.Needs.{needs}
 use Rattle.script_words.proofs.Texts.{told}
 use Rattle.wire.specs.declared.Role.the-variants as role
-use Rattle.script_words.specs.Words.{codes, same}
+use Rattle.laws.specs.Codes.{codes}
+use Rattle.script_words.specs.Words.{same}
 use Rattle.script_lines.specs.Calls.{beginningOf, withHeader}
 use Rattle.laws.proofs.Pick.{yes, no}
 use Rattle.script_lines.proofs.calls.begin.Statement.{statement}

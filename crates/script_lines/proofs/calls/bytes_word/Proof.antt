@@ -2,7 +2,8 @@
 use mathlib.Core.Path.{sym, ap, _∙_}
 use borrow.Author.Needs.{needs}
 use Rattle.script_words.proofs.Texts.{told}
-use Rattle.script_words.specs.Words.{codes, same, headOf, tailOf}
+use Rattle.laws.specs.Codes.{codes}
+use Rattle.script_words.specs.Words.{same, headOf, tailOf}
 use Rattle.script_lines.specs.Calls.{bytesWord}
 use Rattle.laws.proofs.Pick.{yes, no}
 use Rattle.script_lines.proofs.calls.bytes_word.Statement.{statement}

@@ -2,7 +2,8 @@
 use mathlib.Core.Path.{sym, ap, _∙_}
 use borrow.Author.Needs.{needs}
 use Rattle.script_words.proofs.Texts.{told}
-use Rattle.script_words.specs.Words.{codes, same}
+use Rattle.laws.specs.Codes.{codes}
+use Rattle.script_words.specs.Words.{same}
 use Rattle.script_words.specs.Numbers.{numberOf, sizeFrom}
 use Rattle.script_lines.specs.Calls.{withQueue, queueFrom}
 use Rattle.laws.proofs.Pick.{yes, no}

@@ -2,6 +2,7 @@
 use native.Mathlib.Omega.{arith}
 use mathlib.Core.Path.{ap, _∙_}
 use Rattle.text_line.specs.Line.{lineText, added}
+use Rattle.text_line.proofs.Lines.{same-text}
 use Rattle.text_line.proofs.Decimals.{fewest-decimal}
 use borrow.Author.Needs.{needs}
 use Rattle.text_line.proofs.Line.number.Statement.{statement}
@@ -10,7 +11,8 @@ use Rattle.text_line.proofs.Line.number.Tie as tie
 returns : tie.Need-returns
 returns c =
     let d = c .before .before .decimal .ensures in
-    c .text .ensures ∙ ap (added (lineText (c .before .before .before .before .args .self))) (d .1 .1 ∙ fewest-decimal _ _ (omega arith) (d .1 .0))
+    same-text (c .text .ensures)
+    (ap (added (lineText (c .before .before .before .before .args .self))) (d .1 .1 ∙ fewest-decimal _ _ (omega arith) (d .1 .0)))
 
 pub number-spec : {M : Type 1} → statement M
 number-spec =

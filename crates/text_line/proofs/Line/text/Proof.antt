@@ -1,4 +1,5 @@
--- `Line::text` meets its contract: what fits is copied in behind the line's end.
+-- `Line::text` meets its contract: what fits is copied in behind the line's end, and no more.
+use native.Mathlib.Omega.{arith}
 use Rattle.text_line.proofs.Lines.{copied-added}
 use borrow.Author.Needs.{needs}
 use Rattle.text_line.proofs.Line.text.Statement.{statement}
@@ -6,7 +7,9 @@ use Rattle.text_line.proofs.Line.text.Tie as tie
 
 returns : tie.Need-returns
 returns c =
-    copied-added _ _ _ (search needs) (c .before .before .before .least .ensures) (c .before .before .least2 .ensures) (c .copied .ensures)
+    let at = c .before .before .before .least .ensures in
+    let n = c .before .before .least2 .ensures in
+    record { reads = copied-added _ _ _ (search needs) at n (c .copied .ensures); fits = omega arith }
 
 pub text-spec : {M : Type 1} → statement M
 text-spec =

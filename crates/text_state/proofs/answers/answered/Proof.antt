@@ -1,9 +1,9 @@
 -- `answered` meets its contract: each arm of the code is a case of the definition.
-use mathlib.Core.Path.{ap, _∙_}
+use mathlib.Core.Path.{ap}
 use Prim.Native.Nat.{ℕ}
 use borrow.Author.Needs.{needs}
-use Rattle.text_line.specs.Line.{item, lineText, added}
-use Rattle.text_line.proofs.Lines.{added-twice}
+use Rattle.text_line.specs.Line.{itemText, lineText, added}
+use Rattle.text_line.proofs.Lines.{added-twice, same-text}
 use Rattle.text_state.proofs.answers.answered.Statement.{statement}
 use Rattle.text_state.proofs.answers.answered.Tie as tie
 
@@ -32,15 +32,15 @@ returns-5 : tie.Need-returns-5
 returns-5 c =
     let answer4 = c .before .before .before .before .answer4 in
     let a = c .before .before .before .before .before .before .args in
-    rw (answer4 .given .1) (c .item4 .ensures ∙ ap (λ (k : ℕ). added (lineText (a .line)) (item " refused " k))
-    (c .before .number .ensures))
+    rw (answer4 .given .1) (same-text (c .item4 .ensures) (ap (λ (k : ℕ). added (lineText (a .line)) (itemText " refused " k))
+    (c .before .number .ensures)))
 
 returns-6 : tie.Need-returns-6
 returns-6 c =
     let answer5 = c .before .before .before .before .answer5 in
     let a = c .before .before .before .before .before .before .args in
-    rw (answer5 .given .1) (c .item5 .ensures ∙ ap (λ (k : ℕ). added (lineText (a .line)) (item " refused " k))
-    (c .before .number2 .ensures))
+    rw (answer5 .given .1) (same-text (c .item5 .ensures) (ap (λ (k : ℕ). added (lineText (a .line)) (itemText " refused " k))
+    (c .before .number2 .ensures)))
 
 pub answered-spec : {M : Type 1} → statement M
 answered-spec =

@@ -1,10 +1,11 @@
 -- `connection_line` meets its contract: its words, one behind another.
 use mathlib.Core.List.{List}
-use mathlib.Core.Path.{ap, _∙_}
+use mathlib.Core.Path.{ap}
 use Prim.Native.Nat.{ℕ}
 use borrow.Author.Needs.{needs}
-use Rattle.text_line.specs.Line.{codes, added}
-use Rattle.text_line.proofs.Lines.{added-twice}
+use Rattle.laws.specs.Codes.{codes}
+use Rattle.text_line.specs.Line.{added}
+use Rattle.text_line.proofs.Lines.{added-twice, same-text}
 use Rattle.text_state.proofs.states.connection_line.Statement.{statement}
 use Rattle.text_state.proofs.states.connection_line.Tie as tie
 
@@ -14,8 +15,8 @@ returns c =
     let new = c .before .before .before .before .before .before .before .before .before .new in
     let with-stage = c .before .before .before .before .before .before .with-stage in
     let flag = c .before .before .before .before .flag in
-    added-twice _ _ _ (added-twice _ _ _ (added-twice _ _ _ (added-twice _ _ _ (text .ensures ∙ ap (λ (l : List ℕ).
-    added l (codes "connection")) (new .ensures)) (with-stage .ensures)) (flag .ensures)) (c .before .item .ensures))
+    added-twice _ _ _ (added-twice _ _ _ (added-twice _ _ _ (added-twice _ _ _ (same-text (text .ensures) (ap (λ (l : List ℕ).
+    added l (codes "connection")) (new .ensures .reads))) (with-stage .ensures)) (flag .ensures)) (c .before .item .ensures))
     (c .with-ping .ensures)
 
 pub connection-line-spec : {M : Type 1} → statement M
