@@ -17,14 +17,14 @@ use Rattle.protocol.specs.Judge.{done, own-header, sent, Effect, refuse, accept
 use Rattle.protocol.specs.Call.{running, upAndRunning, roomFor}
 use Rattle.laws.specs.Room.{overlaid, atFront}
 use Rattle.protocol.specs.Result.{Given, given, bytesOfAll, inRoom, decided}
-use Rattle.session.specs.Step.{toAsked}
+use Rattle.session.specs.Step.{toStepped}
 use Rattle.call_checks.specs.declared.Gate.{Gate}
 use Rattle.call_checks.specs.declared.Gate.the-variants as gate
 use Rattle.call_checks.specs.Gate.{gateAs, toGate, behind}
 use Rattle.call_checks.proofs.Checks.{followedBy, gated}
 use Rattle.laws.proofs.Rooms.{fits}
 use Rattle.connection_output.proofs.Rooms.{one-message}
-use Rattle.call_checks.specs.Asking.{decision, afterChecks}
+use Rattle.call_checks.specs.Deciding.{decision, afterChecks}
 
 -- ---- the gate
 
@@ -44,40 +44,40 @@ next-check true n p e = absurd (refused-not-ok (sym e))
 next-check false n p e = (refl, e)
 
 -- behind the gate there is the room that was asked for
-module _ {g : Gate} (c : Connection) (asked room : ℕ) (rest : Plan Unit) where
-  pub roomy-running : gateAs g ≡ toGate (running c (roomFor asked room rest)) → g ≡ gate.Passed → asked ≤ room
+module _ {g : Gate} (c : Connection) (stepped room : ℕ) (rest : Plan Unit) where
+  pub roomy-running : gateAs g ≡ toGate (running c (roomFor stepped room rest)) → g ≡ gate.Passed → stepped ≤ room
   roomy-running e q =
       let formed = next-check _ _ _ (sym (ap gateAs q) ∙ e) in
       let runs = next-check _ _ _ (formed .1) in
-      ltb-false room asked (next-check _ _ _ (runs .1) .0)
+      ltb-false room stepped (next-check _ _ _ (runs .1) .0)
 
-  pub roomy : gateAs g ≡ toGate (upAndRunning c (roomFor asked room rest)) → g ≡ gate.Passed → asked ≤ room
+  pub roomy : gateAs g ≡ toGate (upAndRunning c (roomFor stepped room rest)) → g ≡ gate.Passed → stepped ≤ room
   roomy e q =
       let formed = next-check _ _ _ (sym (ap gateAs q) ∙ e) in
       let runs = next-check _ _ _ (formed .1) in
       let up = next-check _ _ _ (runs .1) in
-      ltb-false room asked (next-check _ _ _ (up .1) .0)
+      ltb-false room stepped (next-check _ _ _ (up .1) .0)
 
 -- ---- what is asked of a session
 
 module _ (effect : Taken → Effect) where
-  pub step : (p : Plan Taken) → decision effect (toAsked p) ≡ decided (andThen effect p)
+  pub step : (p : Plan Taken) → decision effect (toStepped p) ≡ decided (andThen effect p)
   unfolding settle
   step (stop k) = refl
   step (check true k p) = refl
   step (check false k p) = step p
   step (take t) = refl
 
-  pub asked : {g : Gate} {r : Result Taken} (p : Plan Unit) (ask : Plan Taken) → gateAs g ≡ toGate p → g ≡ gate.Passed → r ≡ toAsked ask
+  pub stepped : {g : Gate} {r : Result Taken} (p : Plan Unit) (ask : Plan Taken) → gateAs g ≡ toGate p → g ≡ gate.Passed → r ≡ toStepped ask
       → decision effect r ≡ decided (followedBy p (andThen effect ask))
-  asked p ask e q s = ap (decision effect) s ∙ step ask ∙ passed p e (andThen effect ask) q
+  stepped p ask e q s = ap (decision effect) s ∙ step ask ∙ passed p e (andThen effect ask) q
 
   -- a step that is asked for behind a gate
   pub asked-behind : {g h : Gate} (p : Plan Unit) (r : Result Taken) → gateAs g ≡ toGate p → g ≡ h
       → behind (gateAs h) refuse (decision effect r) ≡ afterChecks p effect r
   asked-behind p r e q = ap (λ (x : Result Unit). behind x refuse (decision effect r)) (sym (ap gateAs q) ∙ e)
 
-  pub by-rule : (p : Plan Unit) (ask : Plan Taken) {r : Result Taken} → r ≡ toAsked ask
+  pub by-rule : (p : Plan Unit) (ask : Plan Taken) {r : Result Taken} → r ≡ toStepped ask
       → afterChecks p effect r ≡ decided (followedBy p (andThen effect ask))
   by-rule p ask e =
       ap (afterChecks p effect) e ∙ ap (behind (toGate p) refuse) (step ask) ∙ gated refuse accept p (andThen effect ask)

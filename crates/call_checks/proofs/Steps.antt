@@ -25,16 +25,16 @@ use Rattle.protocol.proofs.Plans.{Takes}
 use Rattle.session.specs.declared.Sent.{Sent}
 use Rattle.session.specs.declared.Sent.the-variants as session
 use Rattle.session.specs.declared.Taken.{Taken}
-use Rattle.session.specs.declared.Asked.{Asked}
-use Rattle.session.specs.declared.Asked.the-variants as asked
-use Rattle.session.specs.Step.{sentAs, takenAs, askedAs, toAsked}
+use Rattle.session.specs.declared.Stepped.{Stepped}
+use Rattle.session.specs.declared.Stepped.the-variants as stepped
+use Rattle.session.specs.Step.{sentAs, takenAs, steppedAs, toStepped}
 use Rattle.state.specs.With.{withSession}
 use Rattle.laws.specs.Room.{atFront}
-use Rattle.call_checks.specs.Asking.{Quiet, decision}
+use Rattle.call_checks.specs.Deciding.{Quiet, decision}
 use Rattle.call_checks.proofs.Calls.{giving, taken, taken-in, refusing-in, four, none}
 
 -- a rule that sends nothing
-pub quiet : (p : Plan rule.Taken) → Takes (λ t. t .sent ≡ []) p → {r : Result rule.Taken} → r ≡ toAsked p → Quiet r
+pub quiet : (p : Plan rule.Taken) → Takes (λ t. t .sent ≡ []) p → {r : Result rule.Taken} → r ≡ toStepped p → Quiet r
 unfolding settle
 quiet (stop n) h e = rw e tt
 quiet (check true n p) h e = rw e tt
@@ -68,23 +68,23 @@ sent-fits n (session.Increment k) room h = four (msg.IncrementRation 0 n k) room
 sent-fits n (session.Abort partial) room h = four (msg.Abort partial n 0) room h
 sent-fits n session.Close room h = four (msg.Close n) room h
 
-module _ (c : Connection) (n : ℕ) {x : Asked} {res : Given} where
-  pub step-refused : {r : Refusal} → x ≡ asked.Refused r → res ≡ given c [] (refuse (refusalNumber r)) → res ≡ given c [] (decision (with-session c n (c .last) done) (askedAs x))
+module _ (c : Connection) (n : ℕ) {x : Stepped} {res : Given} where
+  pub step-refused : {r : Refusal} → x ≡ stepped.Refused r → res ≡ given c [] (refuse (refusalNumber r)) → res ≡ given c [] (decision (with-session c n (c .last) done) (steppedAs x))
   step-refused e g = rw e g
 
-  pub step-taken : {t : Taken} {next : Connection} → x ≡ asked.Taken t → Quiet (askedAs x) → next ≡ withSession n (t .session) c
-      → res ≡ giving next 0 → res ≡ given c [] (decision (with-session c n (c .last) done) (askedAs x))
+  pub step-taken : {t : Taken} {next : Connection} → x ≡ stepped.Taken t → Quiet (steppedAs x) → next ≡ withSession n (t .session) c
+      → res ≡ giving next 0 → res ≡ given c [] (decision (with-session c n (c .last) done) (steppedAs x))
   step-taken {t} e q w g =
       let still : sentAs (t .sent) ≡ [] = rw e at q in
       rw e (g ∙ taken c (with-session c n (c .last) done (takenAs t)) refl w (nothing-sent n still))
 
-  pub step-refused-in : (room : List ℕ) {r : Refusal} → x ≡ asked.Refused r → res ≡ given c [] (refuse (refusalNumber r))
-      → (res, room) ≡ inRoom c room (decision (with-session c n (c .last) done) (askedAs x))
+  pub step-refused-in : (room : List ℕ) {r : Refusal} → x ≡ stepped.Refused r → res ≡ given c [] (refuse (refusalNumber r))
+      → (res, room) ≡ inRoom c room (decision (with-session c n (c .last) done) (steppedAs x))
   step-refused-in room e g = rw e (refusing-in c room g)
 
   pub step-taken-in : (room : List ℕ) {t : Taken} {next : Connection} {wrote : ℕ} {last : List ℕ} {outs : List Out} → 4 ≤ length room
-      → x ≡ asked.Taken t → next ≡ withSession n (t .session) c → outs ≡ map (λ m. sent (numbered n m)) (sentAs (t .sent))
-      → (wrote, last) ≡ atFront (bytesOfAll [] outs) room → res ≡ giving next wrote → (res, last) ≡ inRoom c room (decision (with-session c n (c .last) done) (askedAs x))
+      → x ≡ stepped.Taken t → next ≡ withSession n (t .session) c → outs ≡ map (λ m. sent (numbered n m)) (sentAs (t .sent))
+      → (wrote, last) ≡ atFront (bytesOfAll [] outs) room → res ≡ giving next wrote → (res, last) ≡ inRoom c room (decision (with-session c n (c .last) done) (steppedAs x))
   step-taken-in room {t} h e w o k g =
       rw (e, g)
       (taken-in c (with-session c n (c .last) done (takenAs t)) refl w room (sent-fits n (t .sent) room h) (rw o at k))

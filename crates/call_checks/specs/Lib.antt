@@ -1,4 +1,4 @@
 -- The definitions of what the calls share.
-pub mod Asked
+pub mod Stepped
 pub mod Gate
-pub mod Asking
+pub mod Deciding

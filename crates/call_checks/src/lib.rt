@@ -1,9 +1,8 @@
 // What the calls share: their checks in order, what they give, and what a call that writes asks of one session.
-mod asking;
 mod gates;
 mod results;
+mod stepping;
 
-pub use asking::ask_in;
 pub use gates::further;
 pub use gates::is_running;
 pub use gates::is_up;
@@ -13,6 +12,7 @@ pub use gates::to_write;
 use refusal::Refusal;
 pub use results::done;
 pub use results::refused;
+pub use stepping::take_step_in;
 
 // What the checks before a call's own come to.
 pub enum Gate {

@@ -21,26 +21,26 @@ use Rattle.protocol.specs.Call.{putRule}
 use Rattle.protocol.specs.Result.{Given, given, ifTaken, decided, putCall}
 use Rattle.protocol.proofs.Plans.{Takes}
 use Rattle.session.specs.declared.Taken.{Taken}
-use Rattle.session.specs.declared.Asked.{Asked}
-use Rattle.session.specs.declared.Asked.the-variants as asked
-use Rattle.session.specs.Step.{askedAs}
+use Rattle.session.specs.declared.Stepped.{Stepped}
+use Rattle.session.specs.declared.Stepped.the-variants as stepped
+use Rattle.session.specs.Step.{steppedAs}
 use Rattle.state.specs.With.{withSession}
 use Rattle.connection_check.proofs.Sessions.{waiting-fits}
 use Rattle.call_slots.specs.Slots.{servable, putInto}
-use Rattle.call_checks.specs.Asking.{Quiet, decision}
+use Rattle.call_checks.specs.Deciding.{Quiet, decision}
 use Rattle.call_checks.proofs.Calls.{giving}
 use Rattle.call_put.specs.Put.{putting}
 use Rattle.call_checks.proofs.Steps.{step-taken, step-refused}
 
-module _ (c : Connection) (n w : ℕ) (bytes queue : List ℕ) {x : Asked} {res : Given} where
+module _ (c : Connection) (n w : ℕ) (bytes queue : List ℕ) {x : Stepped} {res : Given} where
   -- a put that its session takes
-  pub put-taken : {t : Taken} {next : Connection} {last : List ℕ} → x ≡ asked.Taken t → Quiet (askedAs x) → next ≡ withSession n (t .session) c
+  pub put-taken : {t : Taken} {next : Connection} {last : List ℕ} → x ≡ stepped.Taken t → Quiet (steppedAs x) → next ≡ withSession n (t .session) c
       → last ≡ putInto queue n w bytes → res ≡ giving next 0
-      → (res, last) ≡ putting c n w bytes queue (decision (with-session c n (c .last) done) (askedAs x))
+      → (res, last) ≡ putting c n w bytes queue (decision (with-session c n (c .last) done) (steppedAs x))
   put-taken e q s l g = rw (l, step-taken c n e q s g, e)
 
-  pub put-refused : {r : Refusal} → x ≡ asked.Refused r → res ≡ given c [] (refuse (refusalNumber r))
-      → (res, queue) ≡ putting c n w bytes queue (decision (with-session c n (c .last) done) (askedAs x))
+  pub put-refused : {r : Refusal} → x ≡ stepped.Refused r → res ≡ given c [] (refuse (refusalNumber r))
+      → (res, queue) ≡ putting c n w bytes queue (decision (with-session c n (c .last) done) (steppedAs x))
   put-refused e g = rw (step-refused c n e g, e)
 
 -- two queues that are the same wherever the rule takes

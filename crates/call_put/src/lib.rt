@@ -9,7 +9,7 @@ use call_slots::put_into;
 use connection::session_at;
 use connection::with_session;
 use refusal::Refusal;
-use session::Asked;
+use session::Stepped;
 use state::Called;
 use state::Connection;
 ghost use mathlib.Core.Path.{_≡_};
@@ -17,10 +17,10 @@ ghost use Rattle.protocol.specs.Plan.{take};
 ghost use Rattle.protocol.specs.Judge.{with-session, done as Judge·done};
 ghost use Rattle.protocol.specs.Call.{upAndRunning, queueOf, numberIn};
 ghost use Rattle.protocol.specs.Result.{calledAs, putCall};
-ghost use Rattle.session.specs.Step.{askedAs};
+ghost use Rattle.session.specs.Step.{steppedAs};
 ghost use Rattle.call_checks.specs.Gate.{gateAs, toGate};
 ghost use Rattle.call_put.specs.Put.{putting};
-ghost use Rattle.call_checks.specs.Asking.{Quiet, decision};
+ghost use Rattle.call_checks.specs.Deciding.{Quiet, decision};
 
 fn to_put(c: Connection, n: u8, queue: usize) -> Gate
     ensures { λ r. ⌜ gateAs r ≡ toGate (upAndRunning c (queueOf queue (numberIn n (take tt)))) ⌝ }
@@ -34,21 +34,21 @@ fn to_put(c: Connection, n: u8, queue: usize) -> Gate
 fn conclude_put(
     c: Connection,
     n: u8,
-    asked: Asked,
+    stepped: Stepped,
     waiting: u16,
     src: &[u8],
     queue: &mut [u8],
 ) -> Called
-    requires { ⌜ Quiet (askedAs asked) ⌝ }
-    ensures { λ r. ⌜ (calledAs r, now (queue .exit)) ≡ putting c n waiting (now (src .entry)) (now (queue .entry)) (decision (with-session c n (c .last) Judge·done) (askedAs asked)) ⌝ }
+    requires { ⌜ Quiet (steppedAs stepped) ⌝ }
+    ensures { λ r. ⌜ (calledAs r, now (queue .exit)) ≡ putting c n waiting (now (src .entry)) (now (queue .entry)) (decision (with-session c n (c .last) Judge·done) (steppedAs stepped)) ⌝ }
 {
-    match asked {
-        Asked::Taken(t) => {
+    match stepped {
+        Stepped::Taken(t) => {
             let x = t.session;
             put_into(queue, n, waiting, src);
             done(with_session(c, n, x), 0)
         }
-        Asked::Refused(refusal) => refused(c, refusal),
+        Stepped::Refused(refusal) => refused(c, refusal),
     }
 }
 
@@ -60,8 +60,8 @@ pub fn put(c: Connection, n: u8, src: &[u8], queue: &mut [u8]) -> Called
     match gate {
         Gate::Passed => {
             let x = session_at(c, n);
-            let asked = session_send::put(x, src.len());
-            conclude_put(c, n, asked, x.waiting, src, queue)
+            let stepped = session_send::step_put(x, src.len());
+            conclude_put(c, n, stepped, x.waiting, src, queue)
         }
         Gate::Refused(refusal) => refused(c, refusal),
     }

@@ -1,6 +1,6 @@
 // The calls on one session that use no queue: open, finish, grant, abort and close.
-mod asking;
 mod silent;
+mod stepping;
 mod writing;
 
 pub use silent::finish;

@@ -1,6 +1,6 @@
 // The calls on one session that write nothing: open and finish.
 
-use crate::asking::ask;
+use crate::stepping::take_step;
 use connection::role_of;
 use connection::session_at;
 use state::Called;
@@ -13,14 +13,14 @@ pub fn open_session(c: Connection, n: u8) -> Called
     ensures { λ r. ⌜ calledAs r ≡ openCall c n ⌝ }
 {
     let stage = c.stage;
-    let asked = session_open::open_session(role_of(stage), session_at(c, n));
-    ask(c, n, asked)
+    let stepped = session_open::step_open(role_of(stage), session_at(c, n));
+    take_step(c, n, stepped)
 }
 
 // Asks for the end of our side, after the bytes that wait.
 pub fn finish(c: Connection, n: u8) -> Called
     ensures { λ r. ⌜ calledAs r ≡ finishCall c n ⌝ }
 {
-    let asked = session_send::finish(session_at(c, n));
-    ask(c, n, asked)
+    let stepped = session_send::step_finish(session_at(c, n));
+    take_step(c, n, stepped)
 }

@@ -28,9 +28,9 @@ use Rattle.protocol.proofs.Slots.{slot-length}
 use Rattle.session.specs.declared.Sent.{Sent}
 use Rattle.session.specs.declared.Sent.the-variants as session
 use Rattle.session.specs.declared.Taken.{Taken}
-use Rattle.session.specs.declared.Asked.{Asked}
-use Rattle.session.specs.declared.Asked.the-variants as asked
-use Rattle.session.specs.Step.{sentAs, takenAs, askedAs}
+use Rattle.session.specs.declared.Stepped.{Stepped}
+use Rattle.session.specs.declared.Stepped.the-variants as stepped
+use Rattle.session.specs.Step.{sentAs, takenAs, steppedAs}
 use Rattle.call_checks.specs.declared.Gate.{Gate}
 use Rattle.call_checks.specs.declared.Gate.the-variants as gate
 use Rattle.call_checks.specs.Gate.{gateAs, toGate}
@@ -38,7 +38,7 @@ use Rattle.laws.proofs.Rooms.{fits}
 use Rattle.connection_output.proofs.Rooms.{one-with}
 use Rattle.call_slots.specs.Slots.{takenFrom}
 use Rattle.call_slots.proofs.Parts.{slot-part}
-use Rattle.call_checks.specs.Asking.{decision}
+use Rattle.call_checks.specs.Deciding.{decision}
 use Rattle.call_checks.proofs.Calls.{next-check}
 use Rattle.call_turn.specs.Turned.{withServed, turnGives}
 
@@ -87,17 +87,17 @@ slot-without n w y queue number within whole =
     let less : w - y ≤ w = omega arith in
     yes _ _ _ (and-both (and-both (eq-eqb _ _ whole) (lt-ltb _ _ number)) (le-leb _ _ within)) ∙ yes _ _ _ (le-leb _ _ less)
 
-module _ (c : Connection) (n : ℕ) (queue room : List ℕ) {x : Asked} {res : Given} where
-  pub turn-refused : {r : Refusal} → x ≡ asked.Refused r → res ≡ given c [] (refuse (refusalNumber r))
-      → (res, queue, room) ≡ turnGives c queue room (decision (with-session c n n (served n)) (askedAs x))
+module _ (c : Connection) (n : ℕ) (queue room : List ℕ) {x : Stepped} {res : Given} where
+  pub turn-refused : {r : Refusal} → x ≡ stepped.Refused r → res ≡ given c [] (refuse (refusalNumber r))
+      → (res, queue, room) ≡ turnGives c queue room (decision (with-session c n n (served n)) (steppedAs x))
   turn-refused e g = rw (e, g)
 
   pub turn-taken : {w : ℕ} {t : Taken} {next : Connection} {wrote k : ℕ} {left last : List ℕ} {outs : List Out} → n < 128 → w ≡ at c n .waiting
       → w ≤ slotSize → length queue ≡ queueSize → turnRoom ≤ length room
-      → x ≡ asked.Taken t → next ≡ withServed c n (t .session) → outs ≡ map (λ m. sent (numbered n m)) (sentAs (t .sent))
+      → x ≡ stepped.Taken t → next ≡ withServed c n (t .session) → outs ≡ map (λ m. sent (numbered n m)) (sentAs (t .sent))
       → (wrote, last) ≡ atFront (bytesOfAll (take (n * 256 + 256 - n * 256) (drop (n * 256) queue)) outs) room
       → k ≡ w - t .session .waiting → left ≡ takenFrom queue n w k → res ≡ reporting next n wrote
-      → (res, left, last) ≡ turnGives c queue room (decision (with-session c n n (served n)) (askedAs x))
+      → (res, left, last) ≡ turnGives c queue room (decision (with-session c n n (served n)) (steppedAs x))
   turn-taken {w} {t} {next} {wrote} {k} {left} {last} {outs} number waits within whole roomy e is o wr less l g =
       let bytes = bytesOfAll (slot n queue) (map (λ m. sent (numbered n m)) (sentAs (t .sent))) in
       let size = sent-fits n (slot n queue) (t .sent) (slot-length n queue number whole) in

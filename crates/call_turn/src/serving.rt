@@ -7,8 +7,8 @@ use connection::session_at;
 use connection::with_session;
 use connection_output::of_session;
 use connection_output::write_with;
-use session::Asked;
 use session::SLOT_SIZE;
+use session::Stepped;
 use state::Answer;
 use state::Called;
 use state::Connection;
@@ -22,8 +22,8 @@ ghost use Rattle.protocol.specs.Connection.{at};
 ghost use Rattle.protocol.specs.Judge.{served, with-session};
 ghost use Rattle.protocol.specs.Call.{serving};
 ghost use Rattle.protocol.specs.Result.{calledAs, decided};
-ghost use Rattle.session.specs.Step.{askedAs};
-ghost use Rattle.call_checks.specs.Asking.{decision};
+ghost use Rattle.session.specs.Step.{steppedAs};
+ghost use Rattle.call_checks.specs.Deciding.{decision};
 ghost use Rattle.call_turn.specs.Turned.{withServed, turnGives};
 
 // The connection with another session for the number that is served, and that number served last.
@@ -63,16 +63,16 @@ fn fewer(before: u16, after: u16) -> u16
 fn conclude_turn(
     c: Connection,
     n: u8,
-    asked: Asked,
+    stepped: Stepped,
     waiting: u16,
     queue: &mut [u8],
     room: &mut [u8],
 ) -> Called
     requires { ⌜ (n < 128) × (waiting ≡ at c n .waiting) × (waiting ≤ slotSize) × (length (now queue) ≡ queueSize) × (turnRoom ≤ length (now room)) ⌝ }
-    ensures { λ r. ⌜ (calledAs r, now (queue .exit), now (room .exit)) ≡ turnGives c (now (queue .entry)) (now (room .entry)) (decision (with-session c n n (served n)) (askedAs asked)) ⌝ }
+    ensures { λ r. ⌜ (calledAs r, now (queue .exit), now (room .exit)) ≡ turnGives c (now (queue .entry)) (now (room .entry)) (decision (with-session c n n (served n)) (steppedAs stepped)) ⌝ }
 {
-    match asked {
-        Asked::Taken(t) => {
+    match stepped {
+        Stepped::Taken(t) => {
             let x = t.session;
             let sent = t.sent;
             let start = (n as usize) * (SLOT_SIZE as usize);
@@ -81,7 +81,7 @@ fn conclude_turn(
             take_from(queue, n, waiting, fewer(waiting, x.waiting));
             reported(with_served(c, n, x), n, wrote)
         }
-        Asked::Refused(refusal) => refused(c, refusal),
+        Stepped::Refused(refusal) => refused(c, refusal),
     }
 }
 
@@ -91,6 +91,6 @@ pub(crate) fn serve(c: Connection, n: u8, queue: &mut [u8], room: &mut [u8]) -> 
     ensures { λ r. ⌜ (calledAs r, now (queue .exit), now (room .exit)) ≡ turnGives c (now (queue .entry)) (now (room .entry)) (decided (serving c n)) ⌝ }
 {
     let x = session_at(c, n);
-    let asked = session_send::turn(own_start(c), far_start(c), x);
-    conclude_turn(c, n, asked, x.waiting, queue, room)
+    let stepped = session_send::step_turn(own_start(c), far_start(c), x);
+    conclude_turn(c, n, stepped, x.waiting, queue, room)
 }

@@ -9,8 +9,8 @@ use Rattle.protocol.specs.Receipt as rule
 use Rattle.session.specs.declared.Sent.{Sent}
 use Rattle.session.specs.declared.Sent.the-variants as sent
 use Rattle.session.specs.declared.Taken.{Taken}
-use Rattle.session.specs.declared.Asked.{Asked}
-use Rattle.session.specs.declared.Asked.the-variants as asked
+use Rattle.session.specs.declared.Stepped.{Stepped}
+use Rattle.session.specs.declared.Stepped.the-variants as stepped
 
 abbrev pub sentAs : Sent → List SessionMessage
 sentAs sent.Nothing = []
@@ -22,10 +22,10 @@ sentAs sent.Close = close-of ∷ []
 abbrev pub takenAs : Taken → rule.Taken
 takenAs t = record { session = t .session; sent = sentAs (t .sent); late = t .late }
 
-abbrev pub askedAs : Asked → Result rule.Taken
-askedAs (asked.Taken t) = ok (takenAs t)
-askedAs (asked.Refused r) = refused (refusalNumber r)
+abbrev pub steppedAs : Stepped → Result rule.Taken
+steppedAs (stepped.Taken t) = ok (takenAs t)
+steppedAs (stepped.Refused r) = refused (refusalNumber r)
 
 -- what a rule of a local call comes to: it takes, or refuses
-abbrev pub toAsked : Plan rule.Taken → Result rule.Taken
-toAsked p = settle refused ok p
+abbrev pub toStepped : Plan rule.Taken → Result rule.Taken
+toStepped p = settle refused ok p

@@ -24,7 +24,7 @@ pub struct Taken {
 }
 
 // What a local call comes to for its session.
-pub enum Asked {
+pub enum Stepped {
     Taken(Taken),
     Refused(Refusal),
 }

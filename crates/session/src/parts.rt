@@ -1,7 +1,7 @@
 // The ways in which a session changes that several steps share, and the answer of a step that is taken.
-use crate::Asked;
 use crate::SLOT_SIZE;
 use crate::Sent;
+use crate::Stepped;
 use crate::Taken;
 use state::Outcome;
 use state::Session;
@@ -13,7 +13,7 @@ ghost use Prim.Native.Nat.{_-_};
 ghost use lib.Dec.{leb};
 ghost use Rattle.laws.specs.Result.{ok};
 ghost use Rattle.protocol.specs.Slot.{slotSize};
-ghost use Rattle.session.specs.Step.{sentAs, askedAs};
+ghost use Rattle.session.specs.Step.{sentAs, steppedAs};
 ghost use Rattle.protocol.specs.Session.{becomes as Session·becomes, dropped as Session·dropped, settled as Session·settled, afterData};
 ghost use Rattle.protocol.specs.Ask.{sends as Ask·sends};
 
@@ -74,10 +74,10 @@ pub fn settled(x: Session, new: Outcome) -> Session
 }
 
 // The call is taken.
-pub fn taken(x: Session, sent: Sent) -> Asked
-    ensures { λ r. ⌜ askedAs r ≡ ok (record { session = x; sent = sentAs sent; late = false }) ⌝ }
+pub fn taken(x: Session, sent: Sent) -> Stepped
+    ensures { λ r. ⌜ steppedAs r ≡ ok (record { session = x; sent = sentAs sent; late = false }) ⌝ }
 {
-    Asked::Taken(Taken {
+    Stepped::Taken(Taken {
         session: x,
         sent,
         late: false,

@@ -1,7 +1,7 @@
 // Close and abort: our side ends.
 use refusal::Refusal;
-use session::Asked;
 use session::Sent;
+use session::Stepped;
 use session::parts::dropped;
 use session::parts::settled;
 use session::parts::taken;
@@ -17,35 +17,35 @@ ghost use Prim.Native.Nat.{_-_};
 ghost use Rattle.state.specs.With.{withSides};
 ghost use Rattle.protocol.specs.Session.{dropped as Session·dropped, settled as Session·settled};
 ghost use Rattle.protocol.specs.Ask.{closeOf, closeAsk, restored as Ask·restored, aborting, abortOf, abortAsk};
-ghost use Rattle.session.specs.Step.{askedAs, toAsked};
+ghost use Rattle.session.specs.Step.{steppedAs, toStepped};
 ghost use Rattle.state.specs.declared.Side.the-variants.{Finished};
 ghost use Rattle.state.specs.declared.Sides.the-variants.{Live};
 ghost use Rattle.state.specs.declared.Outcome.the-variants.{MayRetry};
 
 // Closes a session whose own side is finished.
-fn close_of(x: Session, sides: Sides) -> Asked
-    ensures { λ r. ⌜ askedAs r ≡ toAsked (closeOf x sides) ⌝ }
+fn close_of(x: Session, sides: Sides) -> Stepped
+    ensures { λ r. ⌜ steppedAs r ≡ toStepped (closeOf x sides) ⌝ }
 {
     match sides {
-        Sides::Idle => Asked::Refused(Refusal::WrongState),
-        Sides::Opening(_) => Asked::Refused(Refusal::WrongState),
+        Sides::Idle => Stepped::Refused(Refusal::WrongState),
+        Sides::Opening(_) => Stepped::Refused(Refusal::WrongState),
         Sides::Live(ours, theirs) => match ours {
-            Side::Open => Asked::Refused(Refusal::WrongState),
+            Side::Open => Stepped::Refused(Refusal::WrongState),
             Side::Finished => {
                 let next = x.with_sides(Sides::Live(Side::Ended, theirs));
                 taken(next, Sent::Close)
             }
-            Side::Ended => Asked::Refused(Refusal::WrongState),
+            Side::Ended => Stepped::Refused(Refusal::WrongState),
         },
     }
 }
 
 // Closes a session of a server's.
-pub fn close(role: Role, x: Session) -> Asked
-    ensures { λ r. ⌜ askedAs r ≡ toAsked (closeAsk role x) ⌝ }
+pub fn step_close(role: Role, x: Session) -> Stepped
+    ensures { λ r. ⌜ steppedAs r ≡ toStepped (closeAsk role x) ⌝ }
 {
     if is_client(role) {
-        return Asked::Refused(Refusal::WrongRole);
+        return Stepped::Refused(Refusal::WrongRole);
     }
     let sides = x.sides;
     close_of(x, sides)
@@ -72,45 +72,45 @@ fn abort_opening(x: Session, before: Before) -> Session
 }
 
 // Aborts a session that was sent.
-fn abort_sent(x: Session, partial: bool, theirs: Side) -> Asked
-    ensures { λ r. ⌜ askedAs r ≡ toAsked (aborting partial theirs x) ⌝ }
+fn abort_sent(x: Session, partial: bool, theirs: Side) -> Stepped
+    ensures { λ r. ⌜ steppedAs r ≡ toStepped (aborting partial theirs x) ⌝ }
 {
     let sides = Sides::Live(Side::Ended, theirs);
     let ended = settled(x, Outcome::MustNotRetry);
     taken(dropped(ended.with_sides(sides)), Sent::Abort(partial))
 }
 
-fn abort_finished(x: Session, partial: bool, theirs: Side) -> Asked
-    ensures { λ r. ⌜ askedAs r ≡ toAsked (abortOf x partial (Live Finished theirs)) ⌝ }
+fn abort_finished(x: Session, partial: bool, theirs: Side) -> Stepped
+    ensures { λ r. ⌜ steppedAs r ≡ toStepped (abortOf x partial (Live Finished theirs)) ⌝ }
 {
     match theirs {
         Side::Open => abort_sent(x, partial, Side::Open),
         Side::Finished => abort_sent(x, partial, Side::Finished),
-        Side::Ended => Asked::Refused(Refusal::WrongState),
+        Side::Ended => Stepped::Refused(Refusal::WrongState),
     }
 }
 
-fn abort_of(x: Session, partial: bool, sides: Sides) -> Asked
-    ensures { λ r. ⌜ askedAs r ≡ toAsked (abortOf x partial sides) ⌝ }
+fn abort_of(x: Session, partial: bool, sides: Sides) -> Stepped
+    ensures { λ r. ⌜ steppedAs r ≡ toStepped (abortOf x partial sides) ⌝ }
 {
     match sides {
-        Sides::Idle => Asked::Refused(Refusal::WrongState),
+        Sides::Idle => Stepped::Refused(Refusal::WrongState),
         Sides::Opening(before) => taken(abort_opening(x, before), Sent::Nothing),
         Sides::Live(ours, theirs) => match ours {
             Side::Open => abort_sent(x, partial, theirs),
             Side::Finished => abort_finished(x, partial, theirs),
-            Side::Ended => Asked::Refused(Refusal::WrongState),
+            Side::Ended => Stepped::Refused(Refusal::WrongState),
         },
     }
 }
 
 // Aborts a session.
-pub fn abort(role: Role, x: Session, partial: bool) -> Asked
-    ensures { λ r. ⌜ askedAs r ≡ toAsked (abortAsk role x partial) ⌝ }
+pub fn step_abort(role: Role, x: Session, partial: bool) -> Stepped
+    ensures { λ r. ⌜ steppedAs r ≡ toStepped (abortAsk role x partial) ⌝ }
 {
     let client = is_client(role);
     if partial & client {
-        return Asked::Refused(Refusal::WrongRole);
+        return Stepped::Refused(Refusal::WrongRole);
     }
     let sides = x.sides;
     abort_of(x, partial, sides)

@@ -2,8 +2,8 @@
 use ration::Grown;
 use ration::Ration;
 use refusal::Refusal;
-use session::Asked;
 use session::Sent;
+use session::Stepped;
 use session::parts::taken;
 use state::Session;
 use state::Side;
@@ -17,7 +17,7 @@ ghost use Rattle.protocol.specs.Plan.{check};
 ghost use Rattle.protocol.specs.Message.{increment-of};
 ghost use Rattle.protocol.specs.Session.{extended};
 ghost use Rattle.protocol.specs.Ask.{mayGrant, grantAsk, writing};
-ghost use Rattle.session.specs.Step.{askedAs, toAsked};
+ghost use Rattle.session.specs.Step.{steppedAs, toStepped};
 
 // Whether our side is open or finished, and theirs open.
 fn may_grant(sides: Sides) -> bool
@@ -52,8 +52,8 @@ fn is_bad_amount(amount: u32) -> bool
 }
 
 // Grants an amount, where the inbound ration takes it.
-fn extend(x: Session, amount: u16) -> Asked
-    ensures { λ r. ⌜ askedAs r ≡ toAsked (check (not (grantable (x .inbound) amount)) 7 (writing (increment-of amount) (extended amount x))) ⌝ }
+fn extend(x: Session, amount: u16) -> Stepped
+    ensures { λ r. ⌜ steppedAs r ≡ toStepped (check (not (grantable (x .inbound) amount)) 7 (writing (increment-of amount) (extended amount x))) ⌝ }
 {
     let outbound = x.outbound;
     let inbound = x.inbound;
@@ -65,23 +65,23 @@ fn extend(x: Session, amount: u16) -> Asked
                     let next = x.with_rations(outbound, more);
                     taken(next, Sent::Increment(amount))
                 }
-                Grown::PastLargest => Asked::Refused(Refusal::GrantTooLarge),
+                Grown::PastLargest => Stepped::Refused(Refusal::GrantTooLarge),
             }
         }
-        Ration::Endless => Asked::Refused(Refusal::GrantTooLarge),
+        Ration::Endless => Stepped::Refused(Refusal::GrantTooLarge),
     }
 }
 
 // Grants the far end more bytes.
-pub fn grant(x: Session, amount: u32) -> Asked
-    ensures { λ r. ⌜ askedAs r ≡ toAsked (grantAsk x amount) ⌝ }
+pub fn step_grant(x: Session, amount: u32) -> Stepped
+    ensures { λ r. ⌜ steppedAs r ≡ toStepped (grantAsk x amount) ⌝ }
 {
     let sides = x.sides;
     if may_grant(sides) {
         if is_bad_amount(amount) {
-            return Asked::Refused(Refusal::BadValue);
+            return Stepped::Refused(Refusal::BadValue);
         }
         return extend(x, amount as u16);
     }
-    Asked::Refused(Refusal::WrongState)
+    Stepped::Refused(Refusal::WrongState)
 }

@@ -2,7 +2,7 @@
 mod putting;
 mod turns;
 
-pub use putting::finish;
-pub use putting::put;
+pub use putting::step_finish;
+pub use putting::step_put;
 pub use turns::ready;
-pub use turns::turn;
+pub use turns::step_turn;

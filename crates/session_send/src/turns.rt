@@ -2,8 +2,8 @@
 use ration::Ration;
 use ration::Spent;
 use refusal::Refusal;
-use session::Asked;
 use session::Sent;
+use session::Stepped;
 use session::parts::after_data;
 use session::parts::taken;
 use state::Session;
@@ -16,7 +16,7 @@ ghost use Prim.Native.Nat.{_≤_};
 ghost use Rattle.protocol.specs.Message.{data-of};
 ghost use Rattle.protocol.specs.Plan.{check};
 ghost use Rattle.protocol.specs.Ask.{positive as Ask·positive, due as Ask·due, ready as Ask·ready, smaller as Ask·smaller, sending as Ask·sending, turnOf, turnAsk};
-ghost use Rattle.session.specs.Step.{sentAs, askedAs, toAsked};
+ghost use Rattle.session.specs.Step.{sentAs, steppedAs, toStepped};
 
 // Whether a ration is above 0.
 fn positive(r: Ration) -> bool
@@ -78,8 +78,8 @@ fn message(length: u16, opens: bool, eof: bool) -> Sent
 }
 
 // A Data message goes out with as many of the bytes that wait as the ration allows.
-fn send(x: Session, opens: bool, theirs: Side, outbound: Ration, inbound: Ration) -> Asked
-    ensures { λ r. ⌜ askedAs r ≡ toAsked (Ask·sending x opens theirs outbound inbound (Ask·smaller (x .waiting) outbound)) ⌝ }
+fn send(x: Session, opens: bool, theirs: Side, outbound: Ration, inbound: Ration) -> Stepped
+    ensures { λ r. ⌜ steppedAs r ≡ toStepped (Ask·sending x opens theirs outbound inbound (Ask·smaller (x .waiting) outbound)) ⌝ }
 {
     let n = smaller(x.waiting, outbound);
     let spent = outbound.spend(n as u32);
@@ -96,39 +96,39 @@ fn send(x: Session, opens: bool, theirs: Side, outbound: Ration, inbound: Ration
                 message(n, opens, eof),
             )
         }
-        Spent::NotEnough => Asked::Refused(Refusal::NothingReady),
+        Spent::NotEnough => Stepped::Refused(Refusal::NothingReady),
     }
 }
 
 // Serves a session whose own side is open.
-fn turn_open(x: Session, theirs: Side) -> Asked
-    ensures { λ r. ⌜ askedAs r ≡ toAsked (check (not (Ask·due (x .waiting) (x .outbound) (x .finish))) 9 (Ask·sending x false theirs (x .outbound) (x .inbound) (Ask·smaller (x .waiting) (x .outbound)))) ⌝ }
+fn turn_open(x: Session, theirs: Side) -> Stepped
+    ensures { λ r. ⌜ steppedAs r ≡ toStepped (check (not (Ask·due (x .waiting) (x .outbound) (x .finish))) 9 (Ask·sending x false theirs (x .outbound) (x .inbound) (Ask·smaller (x .waiting) (x .outbound)))) ⌝ }
 {
     let outbound = x.outbound;
     let inbound = x.inbound;
     if due(x.waiting, outbound, x.finish) {
         return send(x, false, theirs, outbound, inbound);
     }
-    Asked::Refused(Refusal::NothingReady)
+    Stepped::Refused(Refusal::NothingReady)
 }
 
-fn turn_of(own: Ration, far: Ration, x: Session, sides: Sides) -> Asked
-    ensures { λ r. ⌜ askedAs r ≡ toAsked (turnOf own far x sides) ⌝ }
+fn turn_of(own: Ration, far: Ration, x: Session, sides: Sides) -> Stepped
+    ensures { λ r. ⌜ steppedAs r ≡ toStepped (turnOf own far x sides) ⌝ }
 {
     match sides {
-        Sides::Idle => Asked::Refused(Refusal::NothingReady),
+        Sides::Idle => Stepped::Refused(Refusal::NothingReady),
         Sides::Opening(_) => send(x, true, Side::Open, far, own),
         Sides::Live(ours, theirs) => match ours {
             Side::Open => turn_open(x, theirs),
-            Side::Finished => Asked::Refused(Refusal::NothingReady),
-            Side::Ended => Asked::Refused(Refusal::NothingReady),
+            Side::Finished => Stepped::Refused(Refusal::NothingReady),
+            Side::Ended => Stepped::Refused(Refusal::NothingReady),
         },
     }
 }
 
 // Serves a session; `own` and `far` are the starting rations that our header and theirs grant.
-pub fn turn(own: Ration, far: Ration, x: Session) -> Asked
-    ensures { λ r. ⌜ askedAs r ≡ toAsked (turnAsk own far x) ⌝ }
+pub fn step_turn(own: Ration, far: Ration, x: Session) -> Stepped
+    ensures { λ r. ⌜ steppedAs r ≡ toStepped (turnAsk own far x) ⌝ }
 {
     let sides = x.sides;
     turn_of(own, far, x, sides)

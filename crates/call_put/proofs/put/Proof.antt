@@ -9,7 +9,7 @@ use Rattle.protocol.specs.Ask.{putAsk}
 use Rattle.protocol.specs.Judge.{done, with-session}
 use Rattle.protocol.specs.Call.{upAndRunning, queueOf, numberIn, asking, putRule}
 use Rattle.protocol.specs.Result.{given}
-use Rattle.call_checks.proofs.Calls.{asked, stopped}
+use Rattle.call_checks.proofs.Calls.{stepped, stopped}
 use Rattle.call_put.specs.Put.{putting}
 use Rattle.call_checks.proofs.Steps.{quiet}
 use Rattle.call_put.proofs.Queued.{put-is, put-stopped}
@@ -18,7 +18,7 @@ use Rattle.call_put.proofs.put.Tie as tie
 
 conclude-put-requires : tie.Need-conclude-put-requires
 unfolding putAsk
-conclude-put-requires c κs = quiet (putAsk (c .before .before .session-at .result) _) (λ _ _. refl) (c .before .put .ensures)
+conclude-put-requires c κs = quiet (putAsk (c .before .before .session-at .result) _) (λ _ _. refl) (c .before .step-put .ensures)
 
 returns : tie.Need-returns
 unfolding putRule
@@ -30,8 +30,8 @@ returns c =
     let same : at-session .session-at .result ≡ at (a .c) (a .n) = at-session .session-at .ensures in
     rw same at (c .before .before .conclude-put .ensures)
     ∙ ap (putting (a .c) (a .n) (at (a .c) (a .n) .waiting) (now (a .src)) (now (a .queue)))
-    (asked (with-session (a .c) (a .n) (a .c .last) done) (upAndRunning (a .c) (queueOf (length (now (a .queue))) (numberIn (a .n) (take tt)))) (putAsk (at (a .c) (a .n)) (length (now (a .src)))) (start .to-put .ensures) (gate .enum-told .given .1)
-    (rw same at (c .before .before .before .before .put .ensures)))
+    (stepped (with-session (a .c) (a .n) (a .c .last) done) (upAndRunning (a .c) (queueOf (length (now (a .queue))) (numberIn (a .n) (take tt)))) (putAsk (at (a .c) (a .n)) (length (now (a .src)))) (start .to-put .ensures) (gate .enum-told .given .1)
+    (rw same at (c .before .before .before .before .step-put .ensures)))
     ∙ put-is (a .c) (a .n) (now (a .src)) (now (a .queue))
 
 returns-2 : tie.Need-returns-2

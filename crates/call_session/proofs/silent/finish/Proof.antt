@@ -13,18 +13,18 @@ use Rattle.call_checks.proofs.Steps.{quiet}
 use Rattle.call_session.proofs.silent.finish.Statement.{statement}
 use Rattle.call_session.proofs.silent.finish.Tie as tie
 
-ask-requires : tie.Need-ask-requires
+take-step-requires : tie.Need-take-step-requires
 unfolding finishAsk
-ask-requires c κs = quiet (finishAsk (c .before .session-at .result)) (λ _. refl) (c .finish .ensures)
+take-step-requires c κs = quiet (finishAsk (c .before .session-at .result)) (λ _. refl) (c .step-finish .ensures)
 
 returns : tie.Need-returns
 unfolding finishCall finishRule
 returns c =
     let step = c .before in
     let a = step .before .before .args in
-    c .ask .ensures
+    c .take-step .ensures
     ∙ ap (given (a .c) [])
-    (by-rule (with-session (a .c) (a .n) (a .c .last) done) (upAndRunning (a .c) (numberIn (a .n) (take tt))) (finishAsk (at (a .c) (a .n))) (rw (step .before .session-at .ensures) at (step .finish .ensures)))
+    (by-rule (with-session (a .c) (a .n) (a .c .last) done) (upAndRunning (a .c) (numberIn (a .n) (take tt))) (finishAsk (at (a .c) (a .n))) (rw (step .before .session-at .ensures) at (step .step-finish .ensures)))
 
 pub finish-spec : {M : Type 1} → statement M
-finish-spec = tie.close (tie.spec (λ c κs. search needs) (λ c κs. search needs) ask-requires returns)
+finish-spec = tie.close (tie.spec (λ c κs. search needs) (λ c κs. search needs) take-step-requires returns)

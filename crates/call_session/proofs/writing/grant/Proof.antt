@@ -8,7 +8,7 @@ use Rattle.protocol.specs.Ask.{grantAsk}
 use Rattle.protocol.specs.Call.{grantRule}
 use Rattle.protocol.specs.Result.{inRoom, grantCall}
 use Rattle.protocol.specs.Judge.{done, with-session}
-use Rattle.call_checks.specs.Asked.{checks}
+use Rattle.call_checks.specs.Stepped.{checks}
 use Rattle.call_checks.proofs.Calls.{by-rule}
 use Rattle.call_session.proofs.writing.grant.Statement.{statement}
 use Rattle.call_session.proofs.writing.grant.Tie as tie
@@ -18,9 +18,9 @@ unfolding grantCall grantRule
 returns c =
     let step = c .before .before .before .before in
     let a = step .before .before .before .args in
-    c .before .before .ask-in .ensures
+    c .before .before .take-step-in .ensures
     ∙ ap (inRoom (a .c) (now (a .room)))
-    (by-rule (with-session (a .c) (a .n) (a .c .last) done) (checks (a .c) (a .n) (length (now (a .room)))) (grantAsk (at (a .c) (a .n)) (a .amount)) (rw (step .before .session-at .ensures) at (step .grant .ensures)))
+    (by-rule (with-session (a .c) (a .n) (a .c .last) done) (checks (a .c) (a .n) (length (now (a .room)))) (grantAsk (at (a .c) (a .n)) (a .amount)) (rw (step .before .session-at .ensures) at (step .step-grant .ensures)))
 
 pub grant-spec : {M : Type 1} → statement M
 grant-spec =

@@ -14,13 +14,13 @@ returns c =
     let start = taken .before .before .before .before in
     let a = start .args in
     turn-taken (a .c) (a .n) (now (a .queue)) (now (a .room)) (start .pre .0) (start .pre .1) (start .pre .2) (start .pre .3) (start .pre .4)
-    (taken .asked .given .1) (c .before .with-served .ensures) (sends .of-session .ensures) (wrote .write-with .ensures) (gone .before .fewer .ensures)
+    (taken .stepped .given .1) (c .before .with-served .ensures) (sends .of-session .ensures) (wrote .write-with .ensures) (gone .before .fewer .ensures)
     (gone .take-from .ensures) (c .reported .ensures)
 
 returns-2 : tie.Need-returns-2
 returns-2 c =
     let a = c .before .before .before .before .before .before .args in
-    turn-refused (a .c) (a .n) (now (a .queue)) (now (a .room)) (c .before .before .asked2 .given .1) (c .refused .ensures)
+    turn-refused (a .c) (a .n) (now (a .queue)) (now (a .room)) (c .before .before .stepped2 .given .1) (c .refused .ensures)
 
 pub conclude-turn-spec : {M : Type 1} → statement M
 conclude-turn-spec =

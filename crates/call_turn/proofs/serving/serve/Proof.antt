@@ -6,7 +6,7 @@ use Rattle.state.specs.declared.Session.{Session}
 use Rattle.protocol.specs.Ask.{turnAsk}
 use Rattle.protocol.specs.Connection.{at, ownStart, farStart}
 use Rattle.protocol.specs.Judge.{served, with-session}
-use Rattle.call_checks.specs.Asking.{decision}
+use Rattle.call_checks.specs.Deciding.{decision}
 use Rattle.call_checks.proofs.Calls.{step}
 use Rattle.call_turn.specs.Turned.{turnGives}
 use Rattle.call_turn.proofs.serving.serve.Statement.{statement}
@@ -30,7 +30,7 @@ returns c =
     let ask = turnAsk (ownStart (a .c)) (farStart (a .c)) (at (a .c) (a .n)) in
     c .before .before .before .before .conclude-turn .ensures
     ∙ ap (turnGives (a .c) (now (a .queue)) (now (a .room)))
-    (ap (decision effect) (rw (own .own-start .ensures, far .far-start .ensures, x .session-at .ensures) at (turn .turn .ensures)) ∙ step effect ask)
+    (ap (decision effect) (rw (own .own-start .ensures, far .far-start .ensures, x .session-at .ensures) at (turn .step-turn .ensures)) ∙ step effect ask)
 
 pub serve-spec : {M : Type 1} → statement M
 serve-spec =

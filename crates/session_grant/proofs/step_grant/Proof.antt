@@ -1,4 +1,4 @@
--- `grant` meets its contract: the checks in the rule's order, and then `extend` answers.
+-- `step_grant` meets its contract: the checks in the rule's order, and then `extend` answers.
 use Prim.Native.Nat.{_≤_}
 use lib.Dec.{eqb, ltb}
 use borrow.Author.Tests.{ltb-false}
@@ -7,8 +7,8 @@ use Rattle.laws.proofs.Tests.{or-second}
 use Rattle.protocol.specs.Plan.{settle}
 use Rattle.protocol.specs.Ask.{grantAsk}
 use Rattle.laws.proofs.Pick.{via}
-use Rattle.session_grant.proofs.grant.Statement.{statement}
-use Rattle.session_grant.proofs.grant.Tie as tie
+use Rattle.session_grant.proofs.step_grant.Statement.{statement}
+use Rattle.session_grant.proofs.step_grant.Tie as tie
 
 returns : tie.Need-returns
 unfolding settle grantAsk
@@ -28,8 +28,8 @@ returns-3 : tie.Need-returns-3
 unfolding settle grantAsk
 returns-3 c = simp (via (c .before .may-grant .ensures) (c .if1 .left))
 
-pub grant-spec : {M : Type 1} → statement M
-grant-spec =
+pub step-grant-spec : {M : Type 1} → statement M
+step-grant-spec =
     tie.close
     (tie.spec
     (λ c κs. search needs) (λ c κs. search needs) returns cast-extend (λ c κs. search needs) returns-2 returns-3)

@@ -6,7 +6,7 @@ use crate::results::refused;
 use connection::with_session;
 use connection_output::of_session;
 use connection_output::write;
-use session::Asked;
+use session::Stepped;
 use state::Called;
 use state::Connection;
 ghost use mathlib.Core.Path.{_≡_};
@@ -14,33 +14,33 @@ ghost use Prim.Native.Nat.{_≤_};
 ghost use lib.ListN.{length};
 ghost use Rattle.protocol.specs.Judge.{with-session, done as Judge·done};
 ghost use Rattle.protocol.specs.Result.{calledAs, inRoom};
-ghost use Rattle.session.specs.Step.{askedAs};
-ghost use Rattle.call_checks.specs.Asking.{decision};
-ghost use Rattle.call_checks.specs.Asked.{askedIn};
+ghost use Rattle.session.specs.Step.{steppedAs};
+ghost use Rattle.call_checks.specs.Deciding.{decision};
+ghost use Rattle.call_checks.specs.Stepped.{steppedIn};
 
 // A call that writes what the session sends.
-fn conclude_in(c: Connection, n: u8, asked: Asked, room: &mut [u8]) -> Called
+fn step_taken_in(c: Connection, n: u8, stepped: Stepped, room: &mut [u8]) -> Called
     requires { ⌜ 4 ≤ length (now room) ⌝ }
-    ensures { λ r. ⌜ (calledAs r, now (room .exit)) ≡ inRoom c (now (room .entry)) (decision (with-session c n (c .last) Judge·done) (askedAs asked)) ⌝ }
+    ensures { λ r. ⌜ (calledAs r, now (room .exit)) ≡ inRoom c (now (room .entry)) (decision (with-session c n (c .last) Judge·done) (steppedAs stepped)) ⌝ }
 {
-    match asked {
-        Asked::Taken(t) => {
+    match stepped {
+        Stepped::Taken(t) => {
             let x = t.session;
             let sent = t.sent;
             let wrote = write(of_session(n, sent), room);
             done(with_session(c, n, x), wrote)
         }
-        Asked::Refused(refusal) => refused(c, refusal),
+        Stepped::Refused(refusal) => refused(c, refusal),
     }
 }
 
 // What a call gives that asks a step of the session of a number.
-pub fn ask_in(c: Connection, n: u8, asked: Asked, room: &mut [u8]) -> Called
-    ensures { λ r. ⌜ (calledAs r, now (room .exit)) ≡ inRoom c (now (room .entry)) (askedIn c n (length (now (room .entry))) (askedAs asked)) ⌝ }
+pub fn take_step_in(c: Connection, n: u8, stepped: Stepped, room: &mut [u8]) -> Called
+    ensures { λ r. ⌜ (calledAs r, now (room .exit)) ≡ inRoom c (now (room .entry)) (steppedIn c n (length (now (room .entry))) (steppedAs stepped)) ⌝ }
 {
     let gate = to_write_session(c, n, room.len());
     match gate {
-        Gate::Passed => conclude_in(c, n, asked, room),
+        Gate::Passed => step_taken_in(c, n, stepped, room),
         Gate::Refused(refusal) => refused(c, refusal),
     }
 }

@@ -1,4 +1,4 @@
--- `put` meets its contract: the checks in the rule's order, and then the bytes wait.
+-- `step_put` meets its contract: the checks in the rule's order, and then the bytes wait.
 use Prim.Native.Nat.{_-_}
 use native.Mathlib.Omega.{arith}
 use borrow.Author.Tests.{leb-true, leb-false, lt-ltb, le-ltb}
@@ -7,8 +7,8 @@ use Rattle.protocol.specs.Slot.{slotSize}
 use Rattle.protocol.specs.Plan.{settle}
 use Rattle.protocol.specs.Ask.{putAsk}
 use Rattle.laws.proofs.Pick.{via}
-use Rattle.session_send.proofs.putting.put.Statement.{statement}
-use Rattle.session_send.proofs.putting.put.Tie as tie
+use Rattle.session_send.proofs.putting.step_put.Statement.{statement}
+use Rattle.session_send.proofs.putting.step_put.Tie as tie
 
 returns : tie.Need-returns
 unfolding settle putAsk
@@ -40,8 +40,8 @@ returns-3 c =
     let full = lt-ltb _ _ (leb-false (a .n) (slotSize - a .x .waiting) (via (c .before .fits-slot .ensures .0) (c .if2 .left))) in
     simp (via (c .before .before .before .is-barred .ensures) (c .before .before .if1 .left), full)
 
-pub put-spec : {M : Type 1} → statement M
-put-spec =
+pub step-put-spec : {M : Type 1} → statement M
+step-put-spec =
     tie.close
     (tie.spec
     (λ c κs. search needs) returns (λ c κs. search needs) cast-waiting add-waiting (λ c κs. search needs)

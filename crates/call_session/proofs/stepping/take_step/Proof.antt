@@ -1,4 +1,4 @@
--- `ask` meets its contract: the gate, then what the step comes to.
+-- `take_step` meets its contract: the gate, then what the step comes to.
 use mathlib.Core.Path.{ap, _∙_}
 use mathlib.Core.List.{[]}
 use borrow.Author.Needs.{needs}
@@ -6,19 +6,19 @@ use Rattle.protocol.specs.Judge.{done, with-session}
 use Rattle.protocol.specs.Plan.{take}
 use Rattle.protocol.specs.Call.{upAndRunning, numberIn}
 use Rattle.protocol.specs.Result.{given}
-use Rattle.session.specs.Step.{askedAs}
+use Rattle.session.specs.Step.{steppedAs}
 use Rattle.call_checks.proofs.Calls.{asked-behind}
-use Rattle.call_session.proofs.asking.ask.Statement.{statement}
-use Rattle.call_session.proofs.asking.ask.Tie as tie
+use Rattle.call_session.proofs.stepping.ask.Statement.{statement}
+use Rattle.call_session.proofs.stepping.ask.Tie as tie
 
 returns : tie.Need-returns
 returns c =
     let gate = c .before in
     let start = gate .before .before in
     let a = start .before .args in
-    c .conclude .ensures
+    c .step-taken .ensures
     ∙ ap (given (a .c) [])
-    (asked-behind (with-session (a .c) (a .n) (a .c .last) done) (upAndRunning (a .c) (numberIn (a .n) (take tt))) (askedAs (a .asked)) (start .to-session .ensures) (gate .enum-told .given .1))
+    (asked-behind (with-session (a .c) (a .n) (a .c .last) done) (upAndRunning (a .c) (numberIn (a .n) (take tt))) (steppedAs (a .stepped)) (start .to-session .ensures) (gate .enum-told .given .1))
 
 returns-2 : tie.Need-returns-2
 returns-2 c =
@@ -26,10 +26,10 @@ returns-2 c =
     let a = start .before .args in
     c .refused .ensures
     ∙ ap (given (a .c) [])
-    (asked-behind (with-session (a .c) (a .n) (a .c .last) done) (upAndRunning (a .c) (numberIn (a .n) (take tt))) (askedAs (a .asked)) (start .to-session .ensures) (c .before .before .gate .given .1))
+    (asked-behind (with-session (a .c) (a .n) (a .c .last) done) (upAndRunning (a .c) (numberIn (a .n) (take tt))) (steppedAs (a .stepped)) (start .to-session .ensures) (c .before .before .gate .given .1))
 
-pub ask-spec : {M : Type 1} → statement M
-ask-spec =
+pub take-step-spec : {M : Type 1} → statement M
+take-step-spec =
     tie.close
     (tie.spec
     (λ c κs. search needs) (λ c. search needs) (λ c κs. c .before .before .before .pre) (λ c. search needs) (λ c κs. search needs) returns returns-2)

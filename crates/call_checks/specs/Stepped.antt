@@ -6,12 +6,12 @@ use Rattle.protocol.specs.Plan.{Plan, take}
 use Rattle.protocol.specs.Receipt.{Taken}
 use Rattle.protocol.specs.Judge.{Decision, done, with-session}
 use Rattle.protocol.specs.Call.{upAndRunning, roomFor, numberIn}
-use Rattle.call_checks.specs.Asking.{afterChecks}
+use Rattle.call_checks.specs.Deciding.{afterChecks}
 
 -- the checks of such a call before its own
 abbrev pub checks : Connection → ℕ → ℕ → Plan Unit
 checks c n room = upAndRunning c (roomFor 4 room (numberIn n (take tt)))
 
 -- what the step comes to counts behind them
-abbrev pub askedIn : Connection → ℕ → ℕ → Result Taken → Decision
-askedIn c n room r = afterChecks (checks c n room) (with-session c n (c .last) done) r
+abbrev pub steppedIn : Connection → ℕ → ℕ → Result Taken → Decision
+steppedIn c n room r = afterChecks (checks c n room) (with-session c n (c .last) done) r

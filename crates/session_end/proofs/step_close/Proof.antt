@@ -1,10 +1,10 @@
--- `close` meets its contract: the role is asked first, then `close_of` answers.
+-- `step_close` meets its contract: the role is asked first, then `close_of` answers.
 use borrow.Author.Needs.{needs}
 use Rattle.protocol.specs.Plan.{settle}
 use Rattle.protocol.specs.Ask.{closeAsk}
 use Rattle.laws.proofs.Pick.{via}
-use Rattle.session_end.proofs.close.Statement.{statement}
-use Rattle.session_end.proofs.close.Tie as tie
+use Rattle.session_end.proofs.step_close.Statement.{statement}
+use Rattle.session_end.proofs.step_close.Tie as tie
 
 returns : tie.Need-returns
 unfolding settle closeAsk
@@ -14,5 +14,5 @@ returns-2 : tie.Need-returns-2
 unfolding settle closeAsk
 returns-2 c = simp (c .close-of .ensures, via (c .before .before .is-client .ensures) (c .before .if1 .left))
 
-pub close-spec : {M : Type 1} → statement M
-close-spec = tie.close (tie.spec (λ c κs. search needs) returns (λ c κs. search needs) returns-2)
+pub step-close-spec : {M : Type 1} → statement M
+step-close-spec = tie.close (tie.spec (λ c κs. search needs) returns (λ c κs. search needs) returns-2)

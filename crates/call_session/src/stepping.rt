@@ -4,40 +4,40 @@ use call_checks::done;
 use call_checks::refused;
 use call_checks::to_session;
 use connection::with_session;
-use session::Asked;
+use session::Stepped;
 use state::Called;
 use state::Connection;
 ghost use mathlib.Core.Path.{_≡_};
 ghost use mathlib.Core.List.{[]};
 ghost use Rattle.protocol.specs.Judge.{with-session, done as Judge·done};
 ghost use Rattle.protocol.specs.Result.{given, calledAs};
-ghost use Rattle.session.specs.Step.{askedAs};
+ghost use Rattle.session.specs.Step.{steppedAs};
 ghost use Rattle.protocol.specs.Plan.{take};
 ghost use Rattle.protocol.specs.Call.{upAndRunning, numberIn};
-ghost use Rattle.call_checks.specs.Asking.{Quiet, decision, afterChecks};
+ghost use Rattle.call_checks.specs.Deciding.{Quiet, decision, afterChecks};
 
 // A call that writes nothing.
-fn conclude(c: Connection, n: u8, asked: Asked) -> Called
-    requires { ⌜ Quiet (askedAs asked) ⌝ }
-    ensures { λ r. ⌜ calledAs r ≡ given c [] (decision (with-session c n (c .last) Judge·done) (askedAs asked)) ⌝ }
+fn step_taken(c: Connection, n: u8, stepped: Stepped) -> Called
+    requires { ⌜ Quiet (steppedAs stepped) ⌝ }
+    ensures { λ r. ⌜ calledAs r ≡ given c [] (decision (with-session c n (c .last) Judge·done) (steppedAs stepped)) ⌝ }
 {
-    match asked {
-        Asked::Taken(t) => {
+    match stepped {
+        Stepped::Taken(t) => {
             let x = t.session;
             done(with_session(c, n, x), 0)
         }
-        Asked::Refused(refusal) => refused(c, refusal),
+        Stepped::Refused(refusal) => refused(c, refusal),
     }
 }
 
 // What a call gives that asks a step of the session of a number.
-pub(crate) fn ask(c: Connection, n: u8, asked: Asked) -> Called
-    requires { ⌜ Quiet (askedAs asked) ⌝ }
-    ensures { λ r. ⌜ calledAs r ≡ given c [] (afterChecks (upAndRunning c (numberIn n (take tt))) (with-session c n (c .last) Judge·done) (askedAs asked)) ⌝ }
+pub(crate) fn take_step(c: Connection, n: u8, stepped: Stepped) -> Called
+    requires { ⌜ Quiet (steppedAs stepped) ⌝ }
+    ensures { λ r. ⌜ calledAs r ≡ given c [] (afterChecks (upAndRunning c (numberIn n (take tt))) (with-session c n (c .last) Judge·done) (steppedAs stepped)) ⌝ }
 {
     let gate = to_session(c, n);
     match gate {
-        Gate::Passed => conclude(c, n, asked),
+        Gate::Passed => step_taken(c, n, stepped),
         Gate::Refused(refusal) => refused(c, refusal),
     }
 }
