@@ -1,8 +1,8 @@
 // The calls of one end: asked of the engine, and their numbers in words.
 use crate::show;
 use crate::show::item;
-use state::Called;
-use state::Connection;
+use engine::Called;
+use engine::Connection;
 
 // A call by its kind: 0 start, 1 open, 2 put, 3 finish, 4 turn, 5 grant, 6 abort, 7 close, 8 ping, 9 shutdown, 10 lost line,
 // 11 receive. The numbers that the kind does not use say nothing; the bytes of a put or a receive are lent beside it.
@@ -44,18 +44,18 @@ pub(crate) fn ask(
     let n = call.session;
     let kind = call.kind;
     match kind {
-        0 => call_connection::start(c, room),
-        1 => call_session::open_session(c, n),
-        2 => call_put::put(c, n, bytes, queue),
-        3 => call_session::finish(c, n),
-        4 => call_turn::turn(c, queue, room),
-        5 => call_session::grant(c, n, call.amount, room),
-        6 => call_session::abort(c, n, call.partial, room),
-        7 => call_session::close(c, n, room),
-        8 => call_connection::ping(c, call.cookie, room),
-        9 => call_connection::shutdown(c, room),
-        10 => call_connection::lost_line(c),
-        _ => call_receive::receive(c, bytes, room),
+        0 => engine::start(c, room),
+        1 => engine::open_session(c, n),
+        2 => engine::put(c, n, bytes, queue),
+        3 => engine::finish(c, n),
+        4 => engine::turn(c, queue, room),
+        5 => engine::grant(c, n, call.amount, room),
+        6 => engine::abort(c, n, call.partial, room),
+        7 => engine::close(c, n, room),
+        8 => engine::ping(c, call.cookie, room),
+        9 => engine::shutdown(c, room),
+        10 => engine::lost_line(c),
+        _ => engine::receive(c, bytes, room),
     }
 }
 

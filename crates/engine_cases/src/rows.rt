@@ -9,10 +9,10 @@ use crate::lines::role;
 use crate::show;
 use crate::show::item;
 use crate::show::say;
+use engine::Answer;
+use engine::Connection;
+use engine::Role;
 use engine_marks::is_filled;
-use state::Answer;
-use state::Connection;
-use wire::Role;
 
 // The session number that is asked for, and how many bytes of room and queue are lent: a letter each.
 struct Lent {

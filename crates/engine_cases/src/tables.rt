@@ -14,8 +14,8 @@ use crate::rows::row;
 use crate::show;
 use crate::show::find;
 use crate::show::rest;
-use state::Connection;
-use wire::Role;
+use engine::Connection;
+use engine::Role;
 
 // The first 16 bytes that hexadecimal digits name, and behind them the last of these.
 fn bytes_of(s: &[u8]) -> [u8; 261] {

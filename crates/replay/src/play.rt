@@ -1,14 +1,14 @@
 // One line of a script, played on a connection.
 use crate::input::Place;
 use crate::show;
+use engine::Called;
+use engine::Connection;
+use engine::Role;
+use engine::Setup;
 use script_lines::Beginning;
 use script_lines::Call;
 use script_lines::Line;
-use state::Called;
-use state::Connection;
-use state::Setup;
 use text_line::first;
-use wire::Role;
 
 // The byte that stands in the room before each call.
 const MARK: u8 = 0xee;
@@ -73,30 +73,30 @@ fn begin(play: Play, line: &[u8]) -> Play {
 fn put(c: Connection, n: u8, line: &[u8], queue: &mut [u8]) -> Called {
     let mut data = [0u8; 1024];
     let k = script_lines::payload(line, &mut data);
-    call_put::put(c, n, first(&data, k), queue)
+    engine::put(c, n, first(&data, k), queue)
 }
 
 fn receive(c: Connection, line: &[u8], room: &mut [u8]) -> Called {
     let mut data = [0u8; 66000];
     let k = script_lines::payload(line, &mut data);
-    call_receive::receive(c, first(&data, k), room)
+    engine::receive(c, first(&data, k), room)
 }
 
 // The calls that use neither queue nor room: the one left is that of a lost line.
 fn silent_call(c: Connection, call: Call) -> Called {
     match call {
-        Call::Open(n) => call_session::open_session(c, n),
-        Call::Finish(n) => call_session::finish(c, n),
-        _ => call_connection::lost_line(c),
+        Call::Open(n) => engine::open_session(c, n),
+        Call::Finish(n) => engine::finish(c, n),
+        _ => engine::lost_line(c),
     }
 }
 
 // The calls on a session that use no queue.
 fn session_call(c: Connection, call: Call, room: &mut [u8]) -> Called {
     match call {
-        Call::Grant(n, amount) => call_session::grant(c, n, amount, room),
-        Call::Abort(n, partial) => call_session::abort(c, n, partial, room),
-        Call::Close(n) => call_session::close(c, n, room),
+        Call::Grant(n, amount) => engine::grant(c, n, amount, room),
+        Call::Abort(n, partial) => engine::abort(c, n, partial, room),
+        Call::Close(n) => engine::close(c, n, room),
         _ => silent_call(c, call),
     }
 }
@@ -104,9 +104,9 @@ fn session_call(c: Connection, call: Call, room: &mut [u8]) -> Called {
 // The calls that use no queue.
 fn call_in_room(c: Connection, call: Call, room: &mut [u8]) -> Called {
     match call {
-        Call::Start => call_connection::start(c, room),
-        Call::Ping(cookie) => call_connection::ping(c, cookie, room),
-        Call::Shutdown => call_connection::shutdown(c, room),
+        Call::Start => engine::start(c, room),
+        Call::Ping(cookie) => engine::ping(c, cookie, room),
+        Call::Shutdown => engine::shutdown(c, room),
         _ => session_call(c, call, room),
     }
 }
@@ -115,7 +115,7 @@ fn call_in_room(c: Connection, call: Call, room: &mut [u8]) -> Called {
 fn call(c: Connection, call: Call, line: &[u8], queue: &mut [u8], room: &mut [u8]) -> Called {
     match call {
         Call::Put(n) => put(c, n, line, queue),
-        Call::Turn => call_turn::turn(c, queue, room),
+        Call::Turn => engine::turn(c, queue, room),
         Call::Receive => receive(c, line, room),
         _ => call_in_room(c, call, room),
     }

@@ -1,12 +1,12 @@
 // What is written to standard output.
 use crate::input::part;
+use engine::Answer;
+use engine::Called;
+use engine::Connection;
+use engine::SLOT_SIZE;
+use engine::Session;
 use libc::STDOUT_FILENO;
 use script_words::head;
-use session::SLOT_SIZE;
-use state::Answer;
-use state::Called;
-use state::Connection;
-use state::Session;
 use text_line::Line;
 use text_line::first;
 
