@@ -7,7 +7,7 @@ use engine::Role;
 use engine::Setup;
 use script_lines::Beginning;
 use script_lines::Call;
-use script_lines::Line;
+use script_lines::Command;
 use text_line::first;
 
 // The byte that stands in the room before each call.
@@ -139,10 +139,10 @@ fn with_room(
 fn made_line(play: Play, line: &[u8], queue: &mut [u8], room: &mut [u8]) -> Play {
     let asked = script_lines::read(line);
     match asked {
-        Line::Call(asked, n) => return with_room(play, asked, line, queue, room, n),
-        Line::State => show::state(play.connection),
-        Line::Queue(n) => show::slot(first(queue, play.queue), n),
-        Line::Wrong => return play.stopped_by_error(),
+        Command::Call(asked, n) => return with_room(play, asked, line, queue, room, n),
+        Command::State => show::state(play.connection),
+        Command::Queue(n) => show::slot(first(queue, play.queue), n),
+        Command::Wrong => return play.stopped_by_error(),
     }
     play
 }

@@ -23,7 +23,7 @@ fn put(line: Line) {
 // The digits of at most the first 512 bytes.
 fn put_some(s: &[u8]) {
     let mut digits = [0u8; 1024];
-    let n = script_words::encode(s, &mut digits);
+    let n = script_words::to_hex(s, &mut digits);
     words(first(&digits, 2 * n));
 }
 
