@@ -1,16 +1,16 @@
 // States and numbers by the letters that the tables use; the head of the file stdin lists them.
 use crate::show::find;
 use connection::with_session;
-use ration::Ration;
-use state::Before;
-use state::Connection;
-use state::Outcome;
-use state::Ping;
-use state::Session;
-use state::Side;
-use state::Sides;
-use state::Stage;
-use wire::Role;
+use engine::Before;
+use engine::Connection;
+use engine::Outcome;
+use engine::Ping;
+use engine::Ration;
+use engine::Role;
+use engine::Session;
+use engine::Side;
+use engine::Sides;
+use engine::Stage;
 
 // The numbers of the letters 1 to 9 and a to f, then those of the marks - o p l w m, then those of the capital letters.
 const NUMBERS: [u32; 41] = [

@@ -2,16 +2,16 @@
 use crate::show;
 use connection::role_of;
 use connection::session_at;
-use ration::Ration;
-use state::Before;
-use state::Connection;
-use state::Outcome;
-use state::Ping;
-use state::Session;
-use state::Side;
-use state::Sides;
-use state::Stage;
-use wire::Role;
+use engine::Before;
+use engine::Connection;
+use engine::Outcome;
+use engine::Ping;
+use engine::Ration;
+use engine::Role;
+use engine::Session;
+use engine::Side;
+use engine::Sides;
+use engine::Stage;
 
 fn side_code(side: Side) -> u8 {
     match side {

@@ -9,10 +9,10 @@ use crate::show::item;
 use crate::show::say;
 use connection::role_of;
 use connection::session_at;
+use engine::Answer;
+use engine::Called;
+use engine::Connection;
 use engine_marks::is_filled;
-use state::Answer;
-use state::Called;
-use state::Connection;
 use text_line::Line;
 use text_line::first;
 use text_state::answered;
@@ -40,9 +40,8 @@ fn answer(a: Answer, used: usize) {
 // The bytes used where the words of the answer do not tell of them.
 fn used_beside(a: Answer, used: usize) {
     match a {
-        Answer::Header(_) => {}
-        Answer::Message { .. } => {}
-        _ => {
+        Answer::Header(_) | Answer::Message { .. } => {}
+        Answer::Done | Answer::Served(_) | Answer::Refused(_) | Answer::Violated(_) => {
             if 0 < used {
                 item(show::USED, used as u64);
             }
@@ -101,7 +100,7 @@ pub(crate) fn role(c: Connection) {
 // The end and the call with its numbers and bytes.
 fn question(c: Connection, asked: Call, bytes: &[u8]) {
     role(c);
-    say(asked.kind);
+    say(call::word_of(asked));
     call::items(asked);
     if 0 < bytes.len() {
         say(show::SPACE);

@@ -1,5 +1,6 @@
 // A row: each call asked of one state by itself, with a number each.
 use crate::call;
+use crate::call::Call;
 use crate::codes::letter;
 use crate::codes::number_of;
 use crate::codes::small;
@@ -9,10 +10,10 @@ use crate::lines::role;
 use crate::show;
 use crate::show::item;
 use crate::show::say;
+use engine::Answer;
+use engine::Connection;
+use engine::Role;
 use engine_marks::is_filled;
-use state::Answer;
-use state::Connection;
-use wire::Role;
 
 // The session number that is asked for, and how many bytes of room and queue are lent: a letter each.
 struct Lent {
@@ -32,9 +33,9 @@ fn lent_of(text: &[u8]) -> Lent {
 // The number of a refusal, or 0 for a call that is taken.
 fn refusal_in(answer: Answer) -> u8 {
     match answer {
+        Answer::Done | Answer::Served(_) | Answer::Header(_) | Answer::Message { .. } => 0,
         Answer::Refused(r) => r.number(),
         Answer::Violated(v) => v.number(),
-        _ => 0,
     }
 }
 
@@ -43,10 +44,10 @@ fn prefix(s: &mut [u8], n: usize) -> &mut [u8] {
     if n <= s.len() { &mut s[0..n] } else { s }
 }
 
-// The call of a kind with the number of its refusal.
-fn tell(kind: u8, refusal: u8) {
+// A call's word with the number of its refusal.
+fn tell(asked: Call, refusal: u8) {
     say(show::SPACE);
-    say(kind);
+    say(call::word_of(asked));
     if refusal == 0 {
         say(show::ROW_TAKEN);
     } else {
@@ -54,13 +55,13 @@ fn tell(kind: u8, refusal: u8) {
     }
 }
 
-// Asks the call of a kind on buffers of its own, and tells whether a refusal left the state and each byte as they were.
-fn attempt(c: Connection, kind: u8, lent: Lent) -> bool {
+// Asks a call on buffers of its own, and tells whether a refusal left the state and each byte as they were.
+fn attempt(c: Connection, asked: Call, lent: Lent) -> bool {
     let mut queue = [0xDDu8; 32769];
     let mut room = [0xEEu8; 260];
     let called = call::ask(
         c,
-        call::each(kind, lent.number),
+        asked,
         b"\x00\x00\x00\x00",
         prefix(&mut queue, lent.queue),
         prefix(&mut room, lent.room),
@@ -68,20 +69,26 @@ fn attempt(c: Connection, kind: u8, lent: Lent) -> bool {
     let answered = called.answer;
     let after = called.connection;
     let refusal = refusal_in(answered);
-    tell(kind, refusal);
+    tell(asked, refusal);
     let as_lent = is_filled(&queue, 0, 0xDD) & is_filled(&room, 0, 0xEE);
     (refusal == 0) | (as_lent & (change(c, after) == show::SAME))
 }
 
 // Each call in turn, every one on the state given.
 fn attempts(c: Connection, lent: Lent) -> bool {
-    let mut left = true;
-    let mut i: u8 = 0;
-    while i < 12 {
-        left = left & attempt(c, i, lent);
-        i += 1;
-    }
-    left
+    let n = lent.number;
+    attempt(c, Call::Start, lent)
+        & attempt(c, Call::Open(n), lent)
+        & attempt(c, Call::Put(n), lent)
+        & attempt(c, Call::Finish(n), lent)
+        & attempt(c, Call::Turn, lent)
+        & attempt(c, Call::Grant(n, 1), lent)
+        & attempt(c, Call::Abort(n, false), lent)
+        & attempt(c, Call::Close(n), lent)
+        & attempt(c, Call::Ping(7), lent)
+        & attempt(c, Call::Shutdown, lent)
+        & attempt(c, Call::Lost, lent)
+        & attempt(c, Call::Receive, lent)
 }
 
 // A row of an end: after the code of its state the letters for what is lent, and the label.

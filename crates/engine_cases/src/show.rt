@@ -3,7 +3,7 @@ use crate::codes::letter;
 use libc::STDOUT_FILENO;
 use text_line::first;
 
-// The words by their numbers: those of the calls first, in the order of their kinds.
+// The words by their numbers: those of the calls first.
 pub(crate) const CLIENT: u8 = 12;
 
 pub(crate) const SERVER: u8 = 13;
@@ -62,6 +62,8 @@ const COUNT_OF: u8 = 39;
 
 const BYTES: u8 = 40;
 
+pub(crate) const WRONG: u8 = 41;
+
 pub(crate) fn text(words: &[u8]) {
     io::write_all(STDOUT_FILENO, words);
 }
@@ -114,7 +116,7 @@ pub(crate) fn say(number: u8) {
         b"start/open/put/finish/turn/grant/abort/close/ping/shutdown/lost/receive/client /server /\
         , same/, over/, changed/: none\n/: running\n/: complete\n/: may be retried\n/: must not be retried\n/ /, /\n/\
         , queue changed\n/ used / payload / wrote / then / spoiled/\
-        slot 5: / .. /fate of / partial/:/ ok/; same\n/; spoiled\n/..(/ bytes)/";
+        slot 5: / .. /fate of / partial/:/ ok/; same\n/; spoiled\n/..(/ bytes)/wrong line\n/";
     text(until(words, place(words, number), b'/'));
 }
 

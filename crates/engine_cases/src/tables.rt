@@ -1,5 +1,4 @@
 // Goes through tables, whose lines are rows, receipts and the calls of runs.
-use crate::call;
 use crate::call::Call;
 use crate::codes::letter;
 use crate::codes::number_of;
@@ -14,8 +13,8 @@ use crate::rows::row;
 use crate::show;
 use crate::show::find;
 use crate::show::rest;
-use state::Connection;
-use wire::Role;
+use engine::Connection;
+use engine::Role;
 
 // The first 16 bytes that hexadecimal digits name, and behind them the last of these.
 fn bytes_of(s: &[u8]) -> [u8; 261] {
@@ -56,14 +55,10 @@ fn count_of(digits: &[u8], amount: u32) -> usize {
     named
 }
 
-// A call with the bytes that digits name.
-fn put_call(b: Bench, asked: Call, digits: &[u8]) -> Bench {
+// A call with the bytes that digits name, or so many of them.
+fn put_call(b: Bench, asked: Call, digits: &[u8], amount: u32) -> Bench {
     let bytes = bytes_of(digits);
-    line(
-        b,
-        asked,
-        text_line::first(&bytes, count_of(digits, asked.amount)),
-    )
+    line(b, asked, text_line::first(&bytes, count_of(digits, amount)))
 }
 
 // The label behind the digits, where there is one.
@@ -79,30 +74,51 @@ fn label(digits: &[u8]) {
 fn put_receipt(text: &[u8]) {
     let digits = rest(text, 10);
     label(digits);
-    put_call(on_bench(end_of(text)), call::each(call::RECEIVE, 0), digits);
+    put_call(on_bench(end_of(text)), Call::Receive, digits, 0);
 }
 
-// The call that a letter names, of the number in the second place, with what the third one says.
-fn call_of(text: &[u8]) -> Call {
-    let kind = find(b"sopftgacihlr", 0, letter(text, 0));
-    let session = small(text, 1);
+// What a line of a run asks: a new end, a look at a slot or a fate, a call, or nothing that there is.
+enum RunLine {
+    End,
+    Slot,
+    Fate(u8),
+    Call(Call),
+    Wrong,
+}
+
+// What the first letter asks, with the number in the second place and what the third one says.
+fn run_line_of(text: &[u8]) -> RunLine {
+    let n = small(text, 1);
     let third = letter(text, 2);
-    Call {
-        kind: (kind % 256) as u8,
-        session,
-        amount: number_of(third),
-        partial: third == b'p',
-        cookie: 256 + (session as u16),
+    match letter(text, 0) {
+        b'@' => RunLine::End,
+        b'?' => RunLine::Slot,
+        b'=' => RunLine::Fate(n),
+        b's' => RunLine::Call(Call::Start),
+        b'o' => RunLine::Call(Call::Open(n)),
+        b'p' => RunLine::Call(Call::Put(n)),
+        b'f' => RunLine::Call(Call::Finish(n)),
+        b't' => RunLine::Call(Call::Turn),
+        b'g' => RunLine::Call(Call::Grant(n, number_of(third))),
+        b'a' => RunLine::Call(Call::Abort(n, third == b'p')),
+        b'c' => RunLine::Call(Call::Close(n)),
+        b'i' => RunLine::Call(Call::Ping(256 + (n as u16))),
+        b'h' => RunLine::Call(Call::Shutdown),
+        b'l' => RunLine::Call(Call::Lost),
+        b'r' => RunLine::Call(Call::Receive),
+        _ => RunLine::Wrong,
     }
 }
 
-// A line of a run: a new end, a look at a slot or a fate, or a call with its bytes.
 fn run_line(b: Bench, text: &[u8]) -> Bench {
-    match letter(text, 0) {
-        b'@' => return on_bench(end_of(rest(text, 4))),
-        b'?' => slot_5(b),
-        b'=' => fate(b, small(text, 1)),
-        _ => return put_call(b, call_of(text), rest(text, 4)),
+    let digits = rest(text, 4);
+    let asked = run_line_of(text);
+    match asked {
+        RunLine::End => return on_bench(end_of(digits)),
+        RunLine::Slot => slot_5(b),
+        RunLine::Fate(n) => fate(b, n),
+        RunLine::Call(asked) => return put_call(b, asked, digits, number_of(letter(text, 2))),
+        RunLine::Wrong => show::say(show::WRONG),
     }
     b
 }

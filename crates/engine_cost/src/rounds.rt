@@ -2,17 +2,17 @@
 use connection::with_session;
 use connection::with_stage;
 use connection_check::well_formed;
-use ration::Ration;
-use state::Answer;
-use state::Called;
-use state::Connection;
-use state::Outcome;
-use state::Session;
-use state::Setup;
-use state::Side;
-use state::Sides;
-use state::Stage;
-use wire::Role;
+use engine::Answer;
+use engine::Called;
+use engine::Connection;
+use engine::Outcome;
+use engine::Ration;
+use engine::Role;
+use engine::Session;
+use engine::Setup;
+use engine::Side;
+use engine::Sides;
+use engine::Stage;
 
 const ROUNDS: u64 = 100000;
 
@@ -107,22 +107,17 @@ fn check_round(r: Round, n: u8, waiting: u16) -> Round {
 
 fn turn_round(r: Round, n: u8, queue: &mut [u8; 32768], room: &mut [u8; 260]) -> Round {
     let c = r.connection;
-    after(call_turn::turn(c, queue, room), r.taken, n, 16)
+    after(engine::turn(c, queue, room), r.taken, n, 16)
 }
 
 fn put_round(r: Round, n: u8, queue: &mut [u8; 32768]) -> Round {
     let c = r.connection;
-    after(
-        call_put::put(c, n, b"0123456789abcdef", queue),
-        r.taken,
-        n,
-        0,
-    )
+    after(engine::put(c, n, b"0123456789abcdef", queue), r.taken, n, 0)
 }
 
 fn receive_round(r: Round, n: u8, room: &mut [u8; 260]) -> Round {
     let c = r.connection;
-    let called = call_receive::receive(c, b"\x80\x05\x00\x100123456789abcdef", room);
+    let called = engine::receive(c, b"\x80\x05\x00\x100123456789abcdef", room);
     after(called, r.taken, n, 0)
 }
 

@@ -1,14 +1,14 @@
 // One line of a script, played on a connection.
 use crate::input::Place;
 use crate::show;
+use engine::Called;
+use engine::Connection;
+use engine::Role;
+use engine::Setup;
 use script_lines::Beginning;
 use script_lines::Call;
-use script_lines::Line;
-use state::Called;
-use state::Connection;
-use state::Setup;
+use script_lines::Command;
 use text_line::first;
-use wire::Role;
 
 // The byte that stands in the room before each call.
 const MARK: u8 = 0xee;
@@ -73,51 +73,30 @@ fn begin(play: Play, line: &[u8]) -> Play {
 fn put(c: Connection, n: u8, line: &[u8], queue: &mut [u8]) -> Called {
     let mut data = [0u8; 1024];
     let k = script_lines::payload(line, &mut data);
-    call_put::put(c, n, first(&data, k), queue)
+    engine::put(c, n, first(&data, k), queue)
 }
 
 fn receive(c: Connection, line: &[u8], room: &mut [u8]) -> Called {
     let mut data = [0u8; 66000];
     let k = script_lines::payload(line, &mut data);
-    call_receive::receive(c, first(&data, k), room)
-}
-
-// The calls that use neither queue nor room: the one left is that of a lost line.
-fn silent_call(c: Connection, call: Call) -> Called {
-    match call {
-        Call::Open(n) => call_session::open_session(c, n),
-        Call::Finish(n) => call_session::finish(c, n),
-        _ => call_connection::lost_line(c),
-    }
-}
-
-// The calls on a session that use no queue.
-fn session_call(c: Connection, call: Call, room: &mut [u8]) -> Called {
-    match call {
-        Call::Grant(n, amount) => call_session::grant(c, n, amount, room),
-        Call::Abort(n, partial) => call_session::abort(c, n, partial, room),
-        Call::Close(n) => call_session::close(c, n, room),
-        _ => silent_call(c, call),
-    }
-}
-
-// The calls that use no queue.
-fn call_in_room(c: Connection, call: Call, room: &mut [u8]) -> Called {
-    match call {
-        Call::Start => call_connection::start(c, room),
-        Call::Ping(cookie) => call_connection::ping(c, cookie, room),
-        Call::Shutdown => call_connection::shutdown(c, room),
-        _ => session_call(c, call, room),
-    }
+    engine::receive(c, first(&data, k), room)
 }
 
 // The call itself.
 fn call(c: Connection, call: Call, line: &[u8], queue: &mut [u8], room: &mut [u8]) -> Called {
     match call {
+        Call::Start => engine::start(c, room),
+        Call::Open(n) => engine::open_session(c, n),
         Call::Put(n) => put(c, n, line, queue),
-        Call::Turn => call_turn::turn(c, queue, room),
+        Call::Finish(n) => engine::finish(c, n),
+        Call::Turn => engine::turn(c, queue, room),
+        Call::Grant(n, amount) => engine::grant(c, n, amount, room),
+        Call::Abort(n, partial) => engine::abort(c, n, partial, room),
+        Call::Close(n) => engine::close(c, n, room),
+        Call::Ping(cookie) => engine::ping(c, cookie, room),
+        Call::Shutdown => engine::shutdown(c, room),
+        Call::Lost => engine::lost_line(c),
         Call::Receive => receive(c, line, room),
-        _ => call_in_room(c, call, room),
     }
 }
 
@@ -156,22 +135,16 @@ fn with_room(
     play.stopped_by_error()
 }
 
-// Shows what stands: the connection and its sessions, or a slot of the queue.
-fn shown(play: Play, asked: Line, queue: &[u8]) -> Play {
-    match asked {
-        Line::State => show::state(play.connection),
-        Line::Queue(n) => show::slot(first(queue, play.queue), n),
-        _ => return play.stopped_by_error(),
-    }
-    play
-}
-
+// What a line behind the first asks: a call, or a print of what stands, the connection and its sessions or a slot of the queue.
 fn made_line(play: Play, line: &[u8], queue: &mut [u8], room: &mut [u8]) -> Play {
     let asked = script_lines::read(line);
     match asked {
-        Line::Call(asked, n) => with_room(play, asked, line, queue, room, n),
-        _ => shown(play, asked, queue),
+        Command::Call(asked, n) => return with_room(play, asked, line, queue, room, n),
+        Command::State => show::state(play.connection),
+        Command::Queue(n) => show::slot(first(queue, play.queue), n),
+        Command::Wrong => return play.stopped_by_error(),
     }
+    play
 }
 
 // What a line does: it may be skipped, make the connection or ask for something.

@@ -1,12 +1,12 @@
 // What is written to standard output.
 use crate::input::part;
+use engine::Answer;
+use engine::Called;
+use engine::Connection;
+use engine::SLOT_SIZE;
+use engine::Session;
 use libc::STDOUT_FILENO;
 use script_words::head;
-use session::SLOT_SIZE;
-use state::Answer;
-use state::Called;
-use state::Connection;
-use state::Session;
 use text_line::Line;
 use text_line::first;
 
@@ -23,7 +23,7 @@ fn put(line: Line) {
 // The digits of at most the first 512 bytes.
 fn put_some(s: &[u8]) {
     let mut digits = [0u8; 1024];
-    let n = script_words::encode(s, &mut digits);
+    let n = script_words::to_hex(s, &mut digits);
     words(first(&digits, 2 * n));
 }
 

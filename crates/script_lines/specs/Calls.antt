@@ -18,14 +18,14 @@ use Rattle.script_lines.specs.declared.Name.{Name}
 use Rattle.script_lines.specs.declared.Name.the-variants as name
 use Rattle.script_lines.specs.declared.Call.{Call}
 use Rattle.script_lines.specs.declared.Call.the-variants as call
-use Rattle.script_lines.specs.declared.Line.{Line}
-use Rattle.script_lines.specs.declared.Line.the-variants as line
+use Rattle.script_lines.specs.declared.Command.{Command}
+use Rattle.script_lines.specs.declared.Command.the-variants as command
 use Rattle.script_lines.specs.declared.Beginning.{Beginning}
 use Rattle.script_lines.specs.declared.Beginning.the-variants as beginning
 use Rattle.script_lines.specs.Names.{nameOf}
 use Rattle.laws.specs.Codes.{codes}
 use Rattle.script_words.specs.Words.{headOf, tailOf, hasMore, same}
-use Rattle.script_words.specs.Numbers.{numberOf, idFrom, shortFrom, sizeFrom}
+use Rattle.script_words.specs.Numbers.{decimalOf, idFrom, shortFrom, sizeFrom}
 use Rattle.script_words.specs.Hex.{isBytes}
 
 -- ---- the room
@@ -37,88 +37,88 @@ usualRoom = 600
 abbrev pub largestRoom : ℕ
 largestRoom = 66000
 
-abbrev pub inRoom : Call → Size → Line
-inRoom c (size.Is n) = line.Call c n
-inRoom c size.Not = line.Wrong
+abbrev pub roomFrom : Call → Size → Command
+roomFrom c (size.Is n) = command.Call c n
+roomFrom c size.Not = command.Wrong
 
 -- the room stands behind the first word of a text
-unfoldable pub withRoom : Call → List ℕ → Line
-withRoom c s = pick (hasMore s) (inRoom c (sizeFrom largestRoom (numberOf (tailOf s)))) (line.Call c usualRoom)
+unfoldable pub withRoom : Call → List ℕ → Command
+withRoom c s = pick (hasMore s) (roomFrom c (sizeFrom largestRoom (decimalOf (tailOf s)))) (command.Call c usualRoom)
 
 -- nothing stands behind the first word of a text
-unfoldable pub alone : Line → List ℕ → Line
-alone l s = pick (hasMore s) line.Wrong l
+unfoldable pub alone : Command → List ℕ → Command
+alone c s = pick (hasMore s) command.Wrong c
 
 -- ---- the words behind a call's name
 
-abbrev pub onId : Id → (ℕ → Line) → Line
+abbrev pub onId : Id → (ℕ → Command) → Command
 onId (id.Is n) f = f n
-onId id.Not f = line.Wrong
+onId id.Not f = command.Wrong
 
-abbrev pub onShort : Short → (ℕ → Line) → Line
+abbrev pub onShort : Short → (ℕ → Command) → Command
 onShort (short.Is n) f = f n
-onShort short.Not f = line.Wrong
+onShort short.Not f = command.Wrong
 
-abbrev pub onNumber : Number → (ℕ → Line) → Line
+abbrev pub onNumber : Number → (ℕ → Command) → Command
 onNumber (number.Is n) f = f n
-onNumber number.Not f = line.Wrong
+onNumber number.Not f = command.Wrong
 
-unfoldable pub openLine : List ℕ → Line
-openLine s = onId (idFrom (numberOf s)) (λ n. line.Call (call.Open n) usualRoom)
+unfoldable pub openCommand : List ℕ → Command
+openCommand s = onId (idFrom (decimalOf s)) (λ n. command.Call (call.Open n) usualRoom)
 
-unfoldable pub finishLine : List ℕ → Line
-finishLine s = onId (idFrom (numberOf s)) (λ n. line.Call (call.Finish n) usualRoom)
+unfoldable pub finishCommand : List ℕ → Command
+finishCommand s = onId (idFrom (decimalOf s)) (λ n. command.Call (call.Finish n) usualRoom)
 
-unfoldable pub queueLine : List ℕ → Line
-queueLine s = onId (idFrom (numberOf s)) (λ n. line.Queue n)
+unfoldable pub queueCommand : List ℕ → Command
+queueCommand s = onId (idFrom (decimalOf s)) (λ n. command.Queue n)
 
-unfoldable pub closeLine : List ℕ → Line
-closeLine s = onId (idFrom (numberOf (headOf s))) (λ n. withRoom (call.Close n) s)
+unfoldable pub closeCommand : List ℕ → Command
+closeCommand s = onId (idFrom (decimalOf (headOf s))) (λ n. withRoom (call.Close n) s)
 
-unfoldable pub putLine : List ℕ → Line
-putLine s = onId (idFrom (numberOf (headOf s))) (λ n. pick (isBytes 1024 (tailOf s)) (line.Call (call.Put n) usualRoom) line.Wrong)
+unfoldable pub putCommand : List ℕ → Command
+putCommand s = onId (idFrom (decimalOf (headOf s))) (λ n. pick (isBytes 1024 (tailOf s)) (command.Call (call.Put n) usualRoom) command.Wrong)
 
-unfoldable pub grantLine : ℕ → List ℕ → Line
-grantLine n s = onNumber (numberOf (headOf s)) (λ a. withRoom (call.Grant n a) s)
+unfoldable pub grantCommand : ℕ → List ℕ → Command
+grantCommand n s = onNumber (decimalOf (headOf s)) (λ a. withRoom (call.Grant n a) s)
 
-unfoldable pub abortLine : ℕ → List ℕ → Line
-abortLine n s =
+unfoldable pub abortCommand : ℕ → List ℕ → Command
+abortCommand n s =
     pick (same (headOf s) (codes "whole")) (withRoom (call.Abort n false) s)
-    (pick (same (headOf s) (codes "partial")) (withRoom (call.Abort n true) s) line.Wrong)
+    (pick (same (headOf s) (codes "partial")) (withRoom (call.Abort n true) s) command.Wrong)
 
-unfoldable pub pingLine : List ℕ → Line
-pingLine s = onShort (shortFrom (numberOf (headOf s))) (λ n. withRoom (call.Ping n) s)
+unfoldable pub pingCommand : List ℕ → Command
+pingCommand s = onShort (shortFrom (decimalOf (headOf s))) (λ n. withRoom (call.Ping n) s)
 
-unfoldable pub receiveLine : List ℕ → Line
-receiveLine s = pick (isBytes 66000 (headOf s)) (withRoom call.Receive s) line.Wrong
+unfoldable pub receiveCommand : List ℕ → Command
+receiveCommand s = pick (isBytes 66000 (headOf s)) (withRoom call.Receive s) command.Wrong
 
 -- a line whose second word is a session number
-unfoldable pub sessionLine : (ℕ → List ℕ → Line) → List ℕ → Line
-sessionLine f s = onId (idFrom (numberOf (headOf s))) (λ n. f n (tailOf s))
+unfoldable pub sessionCommand : (ℕ → List ℕ → Command) → List ℕ → Command
+sessionCommand f s = onId (idFrom (decimalOf (headOf s))) (λ n. f n (tailOf s))
 
 -- ---- a line
 
 -- a line by the name of its call, with what stands behind the name
-abbrev pub lineAs : Name → List ℕ → List ℕ → Line
-lineAs name.Start s rest = withRoom call.Start s
-lineAs name.Open s rest = openLine rest
-lineAs name.Put s rest = putLine rest
-lineAs name.Finish s rest = finishLine rest
-lineAs name.Turn s rest = withRoom call.Turn s
-lineAs name.Grant s rest = sessionLine grantLine rest
-lineAs name.Abort s rest = sessionLine abortLine rest
-lineAs name.Close s rest = closeLine rest
-lineAs name.Ping s rest = pingLine rest
-lineAs name.Shutdown s rest = withRoom call.Shutdown s
-lineAs name.Lost s rest = alone (line.Call call.Lost usualRoom) s
-lineAs name.Receive s rest = receiveLine rest
-lineAs name.State s rest = alone line.State s
-lineAs name.Queue s rest = queueLine rest
-lineAs name.Unknown s rest = line.Wrong
+abbrev pub commandAs : Name → List ℕ → List ℕ → Command
+commandAs name.Start s rest = withRoom call.Start s
+commandAs name.Open s rest = openCommand rest
+commandAs name.Put s rest = putCommand rest
+commandAs name.Finish s rest = finishCommand rest
+commandAs name.Turn s rest = withRoom call.Turn s
+commandAs name.Grant s rest = sessionCommand grantCommand rest
+commandAs name.Abort s rest = sessionCommand abortCommand rest
+commandAs name.Close s rest = closeCommand rest
+commandAs name.Ping s rest = pingCommand rest
+commandAs name.Shutdown s rest = withRoom call.Shutdown s
+commandAs name.Lost s rest = alone (command.Call call.Lost usualRoom) s
+commandAs name.Receive s rest = receiveCommand rest
+commandAs name.State s rest = alone command.State s
+commandAs name.Queue s rest = queueCommand rest
+commandAs name.Unknown s rest = command.Wrong
 
 -- what a line behind the first asks
-unfoldable pub lineOf : List ℕ → Line
-lineOf s = lineAs (nameOf (headOf s)) s (tailOf s)
+unfoldable pub commandOf : List ℕ → Command
+commandOf s = commandAs (nameOf (headOf s)) s (tailOf s)
 
 -- the word that holds the bytes of a put or a receive: the third of the one, the second of the other
 unfoldable pub bytesWord : List ℕ → List ℕ
@@ -132,14 +132,14 @@ queueFrom r h size.Not = beginning.Wrong
 
 unfoldable pub withQueue : Role → ℕ → List ℕ → Beginning
 withQueue r h s =
-    pick (same (headOf s) (codes "queue")) (queueFrom r h (sizeFrom 70000 (numberOf (tailOf s)))) beginning.Wrong
+    pick (same (headOf s) (codes "queue")) (queueFrom r h (sizeFrom 70000 (decimalOf (tailOf s)))) beginning.Wrong
 
 abbrev pub headerFrom : Role → Short → List ℕ → Beginning
 headerFrom r (short.Is h) s = pick (hasMore s) (withQueue r h (tailOf s)) (beginning.Made r h queueSize)
 headerFrom r short.Not s = beginning.Wrong
 
 unfoldable pub withHeader : Role → List ℕ → Beginning
-withHeader r s = headerFrom r (shortFrom (numberOf (headOf s))) s
+withHeader r s = headerFrom r (shortFrom (decimalOf (headOf s))) s
 
 -- what the first line says
 unfoldable pub beginningOf : List ℕ → Beginning

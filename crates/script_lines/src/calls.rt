@@ -1,7 +1,7 @@
 // What a line asks.
 use crate::Beginning;
 use crate::Call;
-use crate::Line;
+use crate::Command;
 use crate::Name;
 use crate::names::name_of;
 use call_slots::QUEUE_SIZE;
@@ -9,13 +9,13 @@ use script_words::Id;
 use script_words::Number;
 use script_words::Short;
 use script_words::Size;
-use script_words::decode;
+use script_words::decimal_of;
+use script_words::from_hex;
 use script_words::has_more;
 use script_words::head;
 use script_words::id_of;
 use script_words::is;
 use script_words::is_bytes;
-use script_words::number_of;
 use script_words::short_of;
 use script_words::size_of;
 use script_words::tail;
@@ -23,109 +23,109 @@ use wire::Role;
 ghost use mathlib.Core.Path.{_≡_};
 ghost use Prim.Native.Nat.{_/_, min};
 ghost use lib.ListN.{length};
-ghost use Rattle.script_words.specs.Hex.{bytesOf, laid};
-ghost use Rattle.script_lines.specs.Calls.{withRoom, alone as Calls·alone, openLine, finishLine, queueLine, closeLine, putLine, grantLine, sessionLine, abortLine, pingLine, receiveLine, lineOf, bytesWord, withQueue, withHeader, beginningOf};
+ghost use Rattle.script_words.specs.Hex.{bytesFromHex, laid};
+ghost use Rattle.script_lines.specs.Calls.{withRoom, alone as Calls·alone, openCommand, finishCommand, queueCommand, closeCommand, putCommand, grantCommand, sessionCommand, abortCommand, pingCommand, receiveCommand, commandOf, bytesWord, withQueue, withHeader, beginningOf};
 
 // A call with the room that stands behind the first word, or 600 where that word is the last.
-fn with_room(call: Call, s: &[u8]) -> Line
+fn with_room(call: Call, s: &[u8]) -> Command
     ensures { λ r. ⌜ r ≡ withRoom call (now (s .entry)) ⌝ }
 {
     if has_more(s) {
         let room = size_of(tail(s), 66000);
         return match room {
-            Size::Is(n) => Line::Call(call, n),
-            Size::Not => Line::Wrong,
+            Size::Is(n) => Command::Call(call, n),
+            Size::Not => Command::Wrong,
         };
     }
-    Line::Call(call, 600)
+    Command::Call(call, 600)
 }
 
 // A line whose first word is the last.
-fn alone(line: Line, s: &[u8]) -> Line
-    ensures { λ r. ⌜ r ≡ Calls·alone line (now (s .entry)) ⌝ }
+fn alone(command: Command, s: &[u8]) -> Command
+    ensures { λ r. ⌜ r ≡ Calls·alone command (now (s .entry)) ⌝ }
 {
-    if has_more(s) { Line::Wrong } else { line }
+    if has_more(s) { Command::Wrong } else { command }
 }
 
 // The lines whose one further word is a session number.
-fn open_session(rest: &[u8]) -> Line
-    ensures { λ r. ⌜ r ≡ openLine (now (rest .entry)) ⌝ }
+fn open_session(rest: &[u8]) -> Command
+    ensures { λ r. ⌜ r ≡ openCommand (now (rest .entry)) ⌝ }
 {
     let n = id_of(rest);
     match n {
-        Id::Is(n) => Line::Call(Call::Open(n), 600),
-        Id::Not => Line::Wrong,
+        Id::Is(n) => Command::Call(Call::Open(n), 600),
+        Id::Not => Command::Wrong,
     }
 }
 
-fn finish(rest: &[u8]) -> Line
-    ensures { λ r. ⌜ r ≡ finishLine (now (rest .entry)) ⌝ }
+fn finish(rest: &[u8]) -> Command
+    ensures { λ r. ⌜ r ≡ finishCommand (now (rest .entry)) ⌝ }
 {
     let n = id_of(rest);
     match n {
-        Id::Is(n) => Line::Call(Call::Finish(n), 600),
-        Id::Not => Line::Wrong,
+        Id::Is(n) => Command::Call(Call::Finish(n), 600),
+        Id::Not => Command::Wrong,
     }
 }
 
-fn queue(rest: &[u8]) -> Line
-    ensures { λ r. ⌜ r ≡ queueLine (now (rest .entry)) ⌝ }
+fn queue(rest: &[u8]) -> Command
+    ensures { λ r. ⌜ r ≡ queueCommand (now (rest .entry)) ⌝ }
 {
     let n = id_of(rest);
     match n {
-        Id::Is(n) => Line::Queue(n),
-        Id::Not => Line::Wrong,
+        Id::Is(n) => Command::Queue(n),
+        Id::Not => Command::Wrong,
     }
 }
 
-fn close(rest: &[u8]) -> Line
-    ensures { λ r. ⌜ r ≡ closeLine (now (rest .entry)) ⌝ }
+fn close(rest: &[u8]) -> Command
+    ensures { λ r. ⌜ r ≡ closeCommand (now (rest .entry)) ⌝ }
 {
     let n = id_of(head(rest));
     match n {
         Id::Is(n) => with_room(Call::Close(n), rest),
-        Id::Not => Line::Wrong,
+        Id::Not => Command::Wrong,
     }
 }
 
-fn put(rest: &[u8]) -> Line
-    ensures { λ r. ⌜ r ≡ putLine (now (rest .entry)) ⌝ }
+fn put(rest: &[u8]) -> Command
+    ensures { λ r. ⌜ r ≡ putCommand (now (rest .entry)) ⌝ }
 {
     let n = id_of(head(rest));
     match n {
         Id::Is(n) => {
             if is_bytes(tail(rest), 1024) {
-                Line::Call(Call::Put(n), 600)
+                Command::Call(Call::Put(n), 600)
             } else {
-                Line::Wrong
+                Command::Wrong
             }
         }
-        Id::Not => Line::Wrong,
+        Id::Not => Command::Wrong,
     }
 }
 
-fn grant_of(n: u8, rest: &[u8]) -> Line
-    ensures { λ r. ⌜ r ≡ grantLine n (now (rest .entry)) ⌝ }
+fn grant_of(n: u8, rest: &[u8]) -> Command
+    ensures { λ r. ⌜ r ≡ grantCommand n (now (rest .entry)) ⌝ }
 {
-    let amount = number_of(head(rest));
+    let amount = decimal_of(head(rest));
     match amount {
         Number::Is(a) => with_room(Call::Grant(n, a), rest),
-        Number::Not => Line::Wrong,
+        Number::Not => Command::Wrong,
     }
 }
 
-fn grant(rest: &[u8]) -> Line
-    ensures { λ r. ⌜ r ≡ sessionLine grantLine (now (rest .entry)) ⌝ }
+fn grant(rest: &[u8]) -> Command
+    ensures { λ r. ⌜ r ≡ sessionCommand grantCommand (now (rest .entry)) ⌝ }
 {
     let n = id_of(head(rest));
     match n {
         Id::Is(n) => grant_of(n, tail(rest)),
-        Id::Not => Line::Wrong,
+        Id::Not => Command::Wrong,
     }
 }
 
-fn abort_of(n: u8, rest: &[u8]) -> Line
-    ensures { λ r. ⌜ r ≡ abortLine n (now (rest .entry)) ⌝ }
+fn abort_of(n: u8, rest: &[u8]) -> Command
+    ensures { λ r. ⌜ r ≡ abortCommand n (now (rest .entry)) ⌝ }
 {
     if is(head(rest), b"whole") {
         return with_room(Call::Abort(n, false), rest);
@@ -133,42 +133,42 @@ fn abort_of(n: u8, rest: &[u8]) -> Line
     if is(head(rest), b"partial") {
         return with_room(Call::Abort(n, true), rest);
     }
-    Line::Wrong
+    Command::Wrong
 }
 
-fn abort(rest: &[u8]) -> Line
-    ensures { λ r. ⌜ r ≡ sessionLine abortLine (now (rest .entry)) ⌝ }
+fn abort(rest: &[u8]) -> Command
+    ensures { λ r. ⌜ r ≡ sessionCommand abortCommand (now (rest .entry)) ⌝ }
 {
     let n = id_of(head(rest));
     match n {
         Id::Is(n) => abort_of(n, tail(rest)),
-        Id::Not => Line::Wrong,
+        Id::Not => Command::Wrong,
     }
 }
 
-fn ping(rest: &[u8]) -> Line
-    ensures { λ r. ⌜ r ≡ pingLine (now (rest .entry)) ⌝ }
+fn ping(rest: &[u8]) -> Command
+    ensures { λ r. ⌜ r ≡ pingCommand (now (rest .entry)) ⌝ }
 {
     let cookie = short_of(head(rest));
     match cookie {
         Short::Is(n) => with_room(Call::Ping(n), rest),
-        Short::Not => Line::Wrong,
+        Short::Not => Command::Wrong,
     }
 }
 
-fn receive(rest: &[u8]) -> Line
-    ensures { λ r. ⌜ r ≡ receiveLine (now (rest .entry)) ⌝ }
+fn receive(rest: &[u8]) -> Command
+    ensures { λ r. ⌜ r ≡ receiveCommand (now (rest .entry)) ⌝ }
 {
     if is_bytes(head(rest), 66000) {
         with_room(Call::Receive, rest)
     } else {
-        Line::Wrong
+        Command::Wrong
     }
 }
 
 // What a line behind the first asks.
-pub fn read(line: &[u8]) -> Line
-    ensures { λ r. ⌜ r ≡ lineOf (now (line .entry)) ⌝ }
+pub fn read(line: &[u8]) -> Command
+    ensures { λ r. ⌜ r ≡ commandOf (now (line .entry)) ⌝ }
 {
     let rest = tail(line);
     let name = name_of(head(line));
@@ -183,11 +183,11 @@ pub fn read(line: &[u8]) -> Line
         Name::Close => close(rest),
         Name::Ping => ping(rest),
         Name::Shutdown => with_room(Call::Shutdown, line),
-        Name::Lost => alone(Line::Call(Call::Lost, 600), line),
+        Name::Lost => alone(Command::Call(Call::Lost, 600), line),
         Name::Receive => receive(rest),
-        Name::State => alone(Line::State, line),
+        Name::State => alone(Command::State, line),
         Name::Queue => queue(rest),
-        Name::Unknown => Line::Wrong,
+        Name::Unknown => Command::Wrong,
     }
 }
 
@@ -204,9 +204,9 @@ fn bytes_word(line: &[u8]) -> &[u8]
 
 // Puts the bytes of a put or a receive at the start of dst, as many as fit, and gives their number.
 pub fn payload(line: &[u8], dst: &mut [u8]) -> usize
-    ensures { λ r. ⌜ (r ≡ min (length (bytesWord (now (line .entry))) / 2) (length (now (dst .entry)))) × (now (dst .exit) ≡ laid (now (dst .entry)) (bytesOf (bytesWord (now (line .entry)))) r) ⌝ }
+    ensures { λ r. ⌜ (r ≡ min (length (bytesWord (now (line .entry))) / 2) (length (now (dst .entry)))) × (now (dst .exit) ≡ laid (now (dst .entry)) (bytesFromHex (bytesWord (now (line .entry)))) r) ⌝ }
 {
-    decode(bytes_word(line), dst)
+    from_hex(bytes_word(line), dst)
 }
 
 fn with_queue(role: Role, header: u16, rest: &[u8]) -> Beginning

@@ -24,7 +24,7 @@ pub enum Call {
 }
 
 // What a line asks: a call with room of a length, a print of what stands, or nothing that there is.
-pub enum Line {
+pub enum Command {
     Call(Call, usize),
     State,
     Queue(u8),

@@ -10,24 +10,24 @@ use lib.ListN.{length, drop, getD, set, drop-of-length-le}
 use lib.Seq.{drop-cons}
 use borrow.Author.Tests.{lt-ltb, le-ltb}
 use Rattle.laws.proofs.Pick.{yes, no}
-use Rattle.script_words.specs.Hex.{digitOf, allDigits, byteOf, bytesOf, glyphOf, textOf, laid}
+use Rattle.script_words.specs.Hex.{digitOf, allHex, byteOf, bytesFromHex, glyphOf, textOf, laid}
 
-digits-cons : (s : List ℕ) (i : ℕ) → i < length s → allDigits (drop i s) ≡ (ltb (digitOf (getD s i 0)) 16 && allDigits (drop (i + 1) s))
-unfolding allDigits
+digits-cons : (s : List ℕ) (i : ℕ) → i < length s → allHex (drop i s) ≡ (ltb (digitOf (getD s i 0)) 16 && allHex (drop (i + 1) s))
+unfolding allHex
 digits-cons s i h =
-    ap allDigits (drop-cons s i 0 h) ∙ ap (λ (k : ℕ). ltb (digitOf (getD s i 0)) 16 && allDigits (drop k s)) (sym (add-one i))
+    ap allHex (drop-cons s i 0 h) ∙ ap (λ (k : ℕ). ltb (digitOf (getD s i 0)) 16 && allHex (drop k s)) (sym (add-one i))
 
-pub digits-step : (s : List ℕ) (i r : ℕ) → i < length s → r ≡ digitOf (getD s i 0) → r ≤ 15 → allDigits (drop i s) ≡ allDigits (drop (i + 1) s)
+pub digits-step : (s : List ℕ) (i r : ℕ) → i < length s → r ≡ digitOf (getD s i 0) → r ≤ 15 → allHex (drop i s) ≡ allHex (drop (i + 1) s)
 digits-step s i r h e k =
-    digits-cons s i h ∙ ap (λ (b : Bool). b && allDigits (drop (i + 1) s)) (lt-ltb (digitOf (getD s i 0)) 16 (omega arith))
+    digits-cons s i h ∙ ap (λ (b : Bool). b && allHex (drop (i + 1) s)) (lt-ltb (digitOf (getD s i 0)) 16 (omega arith))
 
-pub digits-stop : (s : List ℕ) (i r : ℕ) → i < length s → r ≡ digitOf (getD s i 0) → 15 < r → allDigits (drop i s) ≡ false
+pub digits-stop : (s : List ℕ) (i r : ℕ) → i < length s → r ≡ digitOf (getD s i 0) → 15 < r → allHex (drop i s) ≡ false
 digits-stop s i r h e k =
-    digits-cons s i h ∙ ap (λ (b : Bool). b && allDigits (drop (i + 1) s)) (le-ltb (digitOf (getD s i 0)) 16 (omega arith))
+    digits-cons s i h ∙ ap (λ (b : Bool). b && allHex (drop (i + 1) s)) (le-ltb (digitOf (getD s i 0)) 16 (omega arith))
 
-pub digits-end : (s : List ℕ) (i : ℕ) → length s ≤ i → allDigits (drop i s) ≡ true
-unfolding allDigits
-digits-end s i h = ap allDigits (drop-of-length-le s h)
+pub digits-end : (s : List ℕ) (i : ℕ) → length s ≤ i → allHex (drop i s) ≡ true
+unfolding allHex
+digits-end s i h = ap allHex (drop-of-length-le s h)
 
 -- ---- what is laid at the start of a place
 
@@ -39,14 +39,14 @@ laid-step (suc j) (x ∷ d) (y ∷ s) h k = ap (λ (l : List ℕ). y ∷ l) (lai
 
 -- ---- bytes from digits
 
-pub bytes-length : (s : List ℕ) → length (bytesOf s) ≡ length s / 2
-unfolding bytesOf
+pub bytes-length : (s : List ℕ) → length (bytesFromHex s) ≡ length s / 2
+unfolding bytesFromHex
 bytes-length [] = refl
 bytes-length (a ∷ []) = refl
 bytes-length (a ∷ b ∷ s) = let r = bytes-length s in omega arith
 
-pub bytes-at : (i : ℕ) (s : List ℕ) → 2 * i + 1 < length s → getD (bytesOf s) i 0 ≡ byteOf (getD s (2 * i) 0) (getD s (2 * i + 1) 0)
-unfolding bytesOf
+pub bytes-at : (i : ℕ) (s : List ℕ) → 2 * i + 1 < length s → getD (bytesFromHex s) i 0 ≡ byteOf (getD s (2 * i) 0) (getD s (2 * i + 1) 0)
+unfolding bytesFromHex
 bytes-at i [] h = absurd (omega arith)
 bytes-at i (a ∷ []) h = absurd (omega arith)
 bytes-at zero (a ∷ b ∷ s) h = refl

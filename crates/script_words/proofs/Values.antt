@@ -1,4 +1,4 @@
--- The digits of a text one by one, from the definitions of `allDigits` and `valueFrom`, and that nine of them fit 32 bits.
+-- The digits of a text one by one, from the definitions of `allDecimal` and `valueFrom`, and that nine of them fit 32 bits.
 use mathlib.Core.Path.{_≡_, refl, ap, subst, sym, _∙_}
 use mathlib.Core.Bool.{Bool, true, false, _&&_}
 use mathlib.Core.List.{List, [], _∷_}
@@ -15,23 +15,23 @@ use Rattle.laws.proofs.Pick.{yes, no}
 use Rattle.laws.proofs.Tests.{and-first, and-second}
 use Rattle.script_words.specs.declared.Number.{Number}
 use Rattle.script_words.specs.declared.Number.the-variants as number
-use Rattle.script_words.specs.Numbers.{isDigit, allDigits, valueFrom, digitsOf}
+use Rattle.script_words.specs.Numbers.{isDigit, allDecimal, valueFrom, digitsOf}
 
 -- the number of a text of digits behind a value
 unfoldable pub digitsFrom : ℕ → List ℕ → Number
-digitsFrom v s = pick (allDigits s) (number.Is (valueFrom v s)) number.Not
+digitsFrom v s = pick (allDecimal s) (number.Is (valueFrom v s)) number.Not
 
 pub from-0 : (s : List ℕ) → digitsFrom 0 s ≡ digitsOf s
 unfolding digitsFrom digitsOf
 from-0 s = refl
 
 cons-step : (v b : ℕ) (s : List ℕ) → isDigit b ≡ true → digitsFrom v (b ∷ s) ≡ digitsFrom (v * 10 + (b - 48)) s
-unfolding digitsFrom allDigits valueFrom
-cons-step v b s e = ap (λ (t : Bool). pick (t && allDigits s) (number.Is (valueFrom (v * 10 + (b - 48)) s)) number.Not) e
+unfolding digitsFrom allDecimal valueFrom
+cons-step v b s e = ap (λ (t : Bool). pick (t && allDecimal s) (number.Is (valueFrom (v * 10 + (b - 48)) s)) number.Not) e
 
 cons-stop : (v b : ℕ) (s : List ℕ) → isDigit b ≡ false → digitsFrom v (b ∷ s) ≡ number.Not
-unfolding digitsFrom allDigits
-cons-stop v b s e = no _ _ _ (ap (λ (t : Bool). t && allDigits s) e)
+unfolding digitsFrom allDecimal
+cons-stop v b s e = no _ _ _ (ap (λ (t : Bool). t && allDecimal s) e)
 
 opened : (v : ℕ) (s : List ℕ) (i : ℕ) → i < length s → digitsFrom v (drop i s) ≡ digitsFrom v (getD s i 0 ∷ drop (i + 1) s)
 opened v s i h = ap (digitsFrom v) (drop-cons s i 0 h ∙ ap (λ (k : ℕ). getD s i 0 ∷ drop k s) (sym (add-one i)))
@@ -43,7 +43,7 @@ pub value-stop : (v : ℕ) (s : List ℕ) (i : ℕ) → i < length s → isDigit
 value-stop v s i h e = opened v s i h ∙ cons-stop v (getD s i 0) (drop (i + 1) s) e
 
 pub value-end : (v : ℕ) (s : List ℕ) (i : ℕ) → length s ≤ i → digitsFrom v (drop i s) ≡ number.Is v
-unfolding digitsFrom allDigits valueFrom
+unfolding digitsFrom allDecimal valueFrom
 value-end v s i h = ap (digitsFrom v) (drop-of-length-le s h) ∙ yes _ _ _ refl
 
 -- ---- the room for nine digits

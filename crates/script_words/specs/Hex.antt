@@ -12,25 +12,25 @@ use Rattle.script_words.specs.Words.{same}
 unfoldable pub digitOf : ℕ → ℕ
 digitOf b = pick (ltb b 48) 16 (pick (leb b 57) (b - 48) (pick (ltb b 97) 16 (pick (leb b 102) (b - 87) 16)))
 
-unfoldable pub allDigits : List ℕ → Bool
-allDigits [] = true
-allDigits (b ∷ s) = ltb (digitOf b) 16 && allDigits s
+unfoldable pub allHex : List ℕ → Bool
+allHex [] = true
+allHex (b ∷ s) = ltb (digitOf b) 16 && allHex s
 
 -- the byte of two digits, or 0
 unfoldable pub byteOf : ℕ → ℕ → ℕ
 byteOf high low = pick (ltb (digitOf high) 16) (pick (ltb (digitOf low) 16) (digitOf high * 16 + digitOf low) 0) 0
 
 -- the bytes of a text, two digits each
-unfoldable pub bytesOf : List ℕ → List ℕ
-bytesOf [] = []
-bytesOf (a ∷ []) = []
-bytesOf (a ∷ b ∷ s) = byteOf a b ∷ bytesOf s
+unfoldable pub bytesFromHex : List ℕ → List ℕ
+bytesFromHex [] = []
+bytesFromHex (a ∷ []) = []
+bytesFromHex (a ∷ b ∷ s) = byteOf a b ∷ bytesFromHex s
 
 -- a word that stands for bytes: `-`, or an even number of digits for at most so many bytes, and for one at least
 unfoldable pub isBytes : ℕ → List ℕ → Bool
 isBytes most s =
     pick (same s (codes "-")) true
-    (pick (eqb (length s / 2) 0) false (pick (eqb (length s % 2) 1) false (pick (ltb most (length s / 2)) false (allDigits s))))
+    (pick (eqb (length s / 2) 0) false (pick (eqb (length s % 2) 1) false (pick (ltb most (length s / 2)) false (allHex s))))
 
 -- the digit of a value
 unfoldable pub glyphOf : ℕ → ℕ

@@ -18,9 +18,9 @@ use Rattle.script_words.specs.declared.Size.the-variants as size
 abbrev pub isDigit : ℕ → Bool
 isDigit b = leb 48 b && leb b 57
 
-unfoldable pub allDigits : List ℕ → Bool
-allDigits [] = true
-allDigits (b ∷ s) = isDigit b && allDigits s
+unfoldable pub allDecimal : List ℕ → Bool
+allDecimal [] = true
+allDecimal (b ∷ s) = isDigit b && allDecimal s
 
 -- the value of a text of digits behind a value: each further digit makes it ten times as large
 unfoldable pub valueFrom : ℕ → List ℕ → ℕ
@@ -33,11 +33,11 @@ leadsWithZero s = ltb 1 (length s) && eqb (getD s 0 0) 48
 
 -- a text of digits alone is its value
 unfoldable pub digitsOf : List ℕ → Number
-digitsOf s = pick (allDigits s) (number.Is (valueFrom 0 s)) number.Not
+digitsOf s = pick (allDecimal s) (number.Is (valueFrom 0 s)) number.Not
 
 -- one to nine digits with no leading zero
-unfoldable pub numberOf : List ℕ → Number
-numberOf s =
+unfoldable pub decimalOf : List ℕ → Number
+decimalOf s =
     pick (eqb (length s) 0) number.Not
     (pick (ltb 9 (length s)) number.Not (pick (leadsWithZero s) number.Not (digitsOf s)))
 

@@ -3,7 +3,7 @@ use crate::words::is;
 ghost use mathlib.Core.Path.{_≡_};
 ghost use Prim.Native.Nat.{_*_, _/_, _≤_, _<_, min};
 ghost use lib.ListN.{length};
-ghost use Rattle.script_words.specs.Hex.{digitOf, allDigits, byteOf, bytesOf, isBytes, glyphOf, textOf, laid};
+ghost use Rattle.script_words.specs.Hex.{digitOf, allHex, byteOf, bytesFromHex, isBytes, glyphOf, textOf, laid};
 
 // The value of a digit, or 16 where it is none.
 fn digit(b: u8) -> u8
@@ -37,8 +37,8 @@ fn byte(high: u8, low: u8) -> u8
 }
 
 // Whether each byte of the text is a digit.
-fn all_digits(s: &[u8]) -> bool
-    ensures { λ r. ⌜ r ≡ allDigits (now (s .entry)) ⌝ }
+fn all_hex(s: &[u8]) -> bool
+    ensures { λ r. ⌜ r ≡ allHex (now (s .entry)) ⌝ }
 {
     let mut i = 0;
     while i < s.len() {
@@ -67,7 +67,7 @@ pub fn is_bytes(s: &[u8], most: usize) -> bool
     if most < n {
         return false;
     }
-    all_digits(s)
+    all_hex(s)
 }
 
 fn least(a: usize, b: usize) -> usize
@@ -77,8 +77,8 @@ fn least(a: usize, b: usize) -> usize
 }
 
 // Puts the bytes of a text at the start of dst, as many as fit, and gives their number.
-pub fn decode(s: &[u8], dst: &mut [u8]) -> usize
-    ensures { λ r. ⌜ (r ≡ min (length (now (s .entry)) / 2) (length (now (dst .entry)))) × (now (dst .exit) ≡ laid (now (dst .entry)) (bytesOf (now (s .entry))) r) ⌝ }
+pub fn from_hex(s: &[u8], dst: &mut [u8]) -> usize
+    ensures { λ r. ⌜ (r ≡ min (length (now (s .entry)) / 2) (length (now (dst .entry)))) × (now (dst .exit) ≡ laid (now (dst .entry)) (bytesFromHex (now (s .entry))) r) ⌝ }
 {
     let n = least(s.len() / 2, dst.len());
     let mut i = 0;
@@ -97,7 +97,7 @@ fn glyph(d: u8) -> u8
 }
 
 // Puts the digits of bytes at the start of dst, for as many bytes as fit, and gives the number of bytes.
-pub fn encode(src: &[u8], dst: &mut [u8]) -> usize
+pub fn to_hex(src: &[u8], dst: &mut [u8]) -> usize
     ensures { λ r. ⌜ (r ≡ min (length (now (src .entry))) (length (now (dst .entry)) / 2)) × (now (dst .exit) ≡ laid (now (dst .entry)) (textOf (now (src .entry))) (2 * r)) ⌝ }
 {
     let n = least(src.len(), dst.len() / 2);

@@ -3,11 +3,11 @@ mod hex;
 mod numbers;
 mod words;
 
-pub use hex::decode;
-pub use hex::encode;
+pub use hex::from_hex;
 pub use hex::is_bytes;
+pub use hex::to_hex;
+pub use numbers::decimal_of;
 pub use numbers::id_of;
-pub use numbers::number_of;
 pub use numbers::short_of;
 pub use numbers::size_of;
 pub use words::has_more;

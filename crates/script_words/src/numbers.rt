@@ -6,7 +6,7 @@ use crate::Size;
 ghost use mathlib.Core.Path.{_≡_};
 ghost use Prim.Native.Nat.{_≤_};
 ghost use lib.ListN.{length};
-ghost use Rattle.script_words.specs.Numbers.{isDigit, leadsWithZero, digitsOf, numberOf, idFrom, shortFrom, sizeFrom};
+ghost use Rattle.script_words.specs.Numbers.{isDigit, leadsWithZero, digitsOf, decimalOf, idFrom, shortFrom, sizeFrom};
 
 // Whether a byte is a digit.
 fn is_digit(b: u8) -> bool
@@ -42,8 +42,8 @@ fn leads_with_zero(s: &[u8]) -> bool
 }
 
 // A decimal number of at most nine digits, with no sign and no leading zero.
-pub fn number_of(s: &[u8]) -> Number
-    ensures { λ r. ⌜ r ≡ numberOf (now (s .entry)) ⌝ }
+pub fn decimal_of(s: &[u8]) -> Number
+    ensures { λ r. ⌜ r ≡ decimalOf (now (s .entry)) ⌝ }
 {
     if s.len() == 0 {
         return Number::Not;
@@ -59,9 +59,9 @@ pub fn number_of(s: &[u8]) -> Number
 
 // The number of a session, as far as a byte holds it.
 pub fn id_of(s: &[u8]) -> Id
-    ensures { λ r. ⌜ r ≡ idFrom (numberOf (now (s .entry))) ⌝ }
+    ensures { λ r. ⌜ r ≡ idFrom (decimalOf (now (s .entry))) ⌝ }
 {
-    let n = number_of(s);
+    let n = decimal_of(s);
     match n {
         Number::Is(n) => { if n <= 255 { Id::Is(n as u8) } else { Id::Not } }
         Number::Not => Id::Not,
@@ -70,9 +70,9 @@ pub fn id_of(s: &[u8]) -> Id
 
 // A number of 16 bits.
 pub fn short_of(s: &[u8]) -> Short
-    ensures { λ r. ⌜ r ≡ shortFrom (numberOf (now (s .entry))) ⌝ }
+    ensures { λ r. ⌜ r ≡ shortFrom (decimalOf (now (s .entry))) ⌝ }
 {
-    let n = number_of(s);
+    let n = decimal_of(s);
     match n {
         Number::Is(n) => {
             if n <= 65535 {
@@ -87,9 +87,9 @@ pub fn short_of(s: &[u8]) -> Short
 
 // A length of at most a limit.
 pub fn size_of(s: &[u8], most: u32) -> Size
-    ensures { λ r. ⌜ r ≡ sizeFrom most (numberOf (now (s .entry))) ⌝ }
+    ensures { λ r. ⌜ r ≡ sizeFrom most (decimalOf (now (s .entry))) ⌝ }
 {
-    let n = number_of(s);
+    let n = decimal_of(s);
     match n {
         Number::Is(n) => {
             if n <= most {

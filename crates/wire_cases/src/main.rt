@@ -1,8 +1,9 @@
-// Puts byte strings through the reader and messages through the writer, a line each.
+// Puts byte strings through the reader, messages through the writer and numbers through the ration, a line each.
 //
 // The byte strings stand on standard input, the file stdin, which says how its lines are read. The expected output, the file
-// stdout, is made by hand from the published tables: each byte string is looked up there, row by row, and none of its lines
-// is copied from a run.
+// stdout, is made by hand from the published tables, where each byte string is looked up row by row, and from the rules of the
+// ration, and none of its lines is copied from a run.
+mod rations;
 mod reads;
 mod show;
 mod writes;
@@ -12,4 +13,5 @@ fn main() {
     let n = io::read_full(libc::STDIN_FILENO, &mut input);
     reads::all(text_line::first(&input, n));
     writes::all();
+    rations::all();
 }

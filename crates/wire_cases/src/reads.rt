@@ -2,7 +2,7 @@
 use crate::show;
 use bytes::scan::find;
 use script_words::Size;
-use script_words::decode;
+use script_words::from_hex;
 use script_words::head;
 use script_words::is;
 use script_words::tail;
@@ -48,7 +48,7 @@ fn count(s: &[u8], n: usize) -> usize {
 // Puts bytes at the start of a room, and gives the number of all that are meant.
 fn put_bytes(digits: &[u8], room: &mut [u8]) -> usize {
     let k = find(digits, 0, digits.len(), b'(');
-    let n = decode(first(digits, k), room);
+    let n = from_hex(first(digits, k), room);
     count(&digits[k..], n)
 }
 
@@ -69,7 +69,7 @@ fn header_answer(answer: ReadHeader) {
 
 fn header(digits: &[u8]) {
     let mut bytes = [0u8; 16];
-    let n = decode(digits, &mut bytes);
+    let n = from_hex(digits, &mut bytes);
     header_answer(wire_header::read_connection_header(first(&bytes, n)));
 }
 

@@ -35,7 +35,7 @@ pub(crate) fn role(from: Role) {
 // A name, and at most 16 bytes as two hexadecimal digits each.
 pub(crate) fn part(name: &[u8], s: &[u8]) {
     let mut digits = [0u8; 32];
-    let n = script_words::encode(s, &mut digits);
+    let n = script_words::to_hex(s, &mut digits);
     text(name);
     text(first(&digits, 2 * n));
 }

@@ -4,13 +4,13 @@ use borrow.Author.Needs.{needs}
 use Rattle.script_words.proofs.Texts.{told}
 use Rattle.laws.specs.Codes.{codes}
 use Rattle.script_words.specs.Words.{same}
-use Rattle.script_lines.specs.Calls.{abortLine}
+use Rattle.script_lines.specs.Calls.{abortCommand}
 use Rattle.laws.proofs.Pick.{yes, no}
 use Rattle.script_lines.proofs.calls.abort_of.Statement.{statement}
 use Rattle.script_lines.proofs.calls.abort_of.Tie as tie
 
 returns : tie.Need-returns
-unfolding abortLine
+unfolding abortCommand
 returns c =
     let head = c .before .before .before .before .head in
     let is = c .before .before .is in
@@ -18,7 +18,7 @@ returns c =
     (c .before .if1 .taken)))
 
 returns-2 : tie.Need-returns-2
-unfolding abortLine
+unfolding abortCommand
 returns-2 c =
     let head = c .before .before .before .before .before .before .before .before .head in
     let is = c .before .before .before .before .before .before .is in
@@ -30,7 +30,7 @@ returns-2 c =
     (c .before .if2 .taken)))
 
 returns-3 : tie.Need-returns-3
-unfolding abortLine
+unfolding abortCommand
 returns-3 c =
     let head = c .before .before .before .before .before .before .before .head in
     let is = c .before .before .before .before .before .is in

@@ -3,23 +3,23 @@ use mathlib.Core.Path.{sym, ap, _∙_}
 use borrow.Author.Needs.{needs}
 use Rattle.script_words.specs.declared.Id.{Id}
 use Rattle.script_lines.specs.declared.Call.the-variants as call
-use Rattle.script_lines.specs.declared.Line.the-variants as line
-use Rattle.script_lines.specs.Calls.{openLine, onId, usualRoom}
+use Rattle.script_lines.specs.declared.Command.the-variants as command
+use Rattle.script_lines.specs.Calls.{openCommand, onId, usualRoom}
 use Rattle.script_lines.proofs.calls.open_session.Statement.{statement}
 use Rattle.script_lines.proofs.calls.open_session.Tie as tie
 
 returns : tie.Need-returns
-unfolding openLine
+unfolding openCommand
 returns c =
     let id-of = c .before .before .before .id-of in
-    sym (ap (λ (i : Id). onId i (λ n. line.Call (call.Open n) usualRoom)) (sym (id-of .ensures) ∙
+    sym (ap (λ (i : Id). onId i (λ n. command.Call (call.Open n) usualRoom)) (sym (id-of .ensures) ∙
     c .before .n .given .1))
 
 returns-2 : tie.Need-returns-2
-unfolding openLine
+unfolding openCommand
 returns-2 c =
     let id-of = c .before .before .id-of in
-    sym (ap (λ (i : Id). onId i (λ n. line.Call (call.Open n) usualRoom)) (sym (id-of .ensures) ∙
+    sym (ap (λ (i : Id). onId i (λ n. command.Call (call.Open n) usualRoom)) (sym (id-of .ensures) ∙
     c .enum-told .given .1))
 
 pub open-session-spec : {M : Type 1} → statement M

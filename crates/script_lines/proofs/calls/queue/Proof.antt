@@ -1,23 +1,23 @@
 -- `queue` meets its contract: each arm of the code is a case of the definition.
 use mathlib.Core.Path.{sym, ap, _∙_}
 use borrow.Author.Needs.{needs}
-use Rattle.script_lines.specs.Calls.{queueLine, onId}
+use Rattle.script_lines.specs.Calls.{queueCommand, onId}
 use Rattle.script_words.specs.declared.Id.{Id}
-use Rattle.script_lines.specs.declared.Line.the-variants as line
+use Rattle.script_lines.specs.declared.Command.the-variants as command
 use Rattle.script_lines.proofs.calls.queue.Statement.{statement}
 use Rattle.script_lines.proofs.calls.queue.Tie as tie
 
 returns : tie.Need-returns
-unfolding queueLine
+unfolding queueCommand
 returns c =
     let id-of = c .before .before .before .id-of in
-    sym (ap (λ (i : Id). onId i (λ n. line.Queue n)) (sym (id-of .ensures) ∙ c .before .n .given .1))
+    sym (ap (λ (i : Id). onId i (λ n. command.Queue n)) (sym (id-of .ensures) ∙ c .before .n .given .1))
 
 returns-2 : tie.Need-returns-2
-unfolding queueLine
+unfolding queueCommand
 returns-2 c =
     let id-of = c .before .before .id-of in
-    sym (ap (λ (i : Id). onId i (λ n. line.Queue n)) (sym (id-of .ensures) ∙ c .enum-told .given .1))
+    sym (ap (λ (i : Id). onId i (λ n. command.Queue n)) (sym (id-of .ensures) ∙ c .enum-told .given .1))
 
 pub queue-spec : {M : Type 1} → statement M
 queue-spec =

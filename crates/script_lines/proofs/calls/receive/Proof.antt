@@ -3,13 +3,13 @@ use mathlib.Core.Path.{sym, _∙_}
 use borrow.Author.Needs.{needs}
 use Rattle.script_words.proofs.Texts.{told}
 use Rattle.script_words.specs.Hex.{isBytes}
-use Rattle.script_lines.specs.Calls.{receiveLine}
+use Rattle.script_lines.specs.Calls.{receiveCommand}
 use Rattle.laws.proofs.Pick.{yes, no}
 use Rattle.script_lines.proofs.calls.receive.Statement.{statement}
 use Rattle.script_lines.proofs.calls.receive.Tie as tie
 
 returns : tie.Need-returns
-unfolding receiveLine
+unfolding receiveCommand
 returns c =
     let head = c .before .before .before .head in
     let is-bytes = c .before .before .is-bytes in
@@ -17,7 +17,7 @@ returns c =
     (c .before .if1 .taken)))
 
 returns-2 : tie.Need-returns-2
-unfolding receiveLine
+unfolding receiveCommand
 returns-2 c =
     let head = c .before .before .head in
     sym (no _ _ _ (told (isBytes 66000) (head .ensures) (c .before .is-bytes .ensures) (c .if1 .left)))

@@ -3,7 +3,7 @@ use mathlib.Core.Path.{sym, ap, _∙_}
 use borrow.Author.Needs.{needs}
 use Rattle.script_words.proofs.Texts.{told}
 use Rattle.script_words.specs.declared.Short.{Short}
-use Rattle.script_words.specs.Numbers.{numberOf, shortFrom}
+use Rattle.script_words.specs.Numbers.{decimalOf, shortFrom}
 use Rattle.script_lines.specs.Calls.{withHeader, withQueue, headerFrom}
 use Rattle.laws.proofs.Pick.{yes, no}
 use Rattle.script_lines.proofs.calls.with_header.Statement.{statement}
@@ -19,7 +19,7 @@ returns c =
     let has-more = c .before .before .before .has-more in
     let if1 = c .before .before .if1 in
     c .with-queue .ensures ∙ ap (withQueue (a .role) (header .given .0 .0)) (c .before .tail .ensures) ∙ sym (ap (λ
-    (h : Short). headerFrom (a .role) h (a .rest .now)) (told (λ l. shortFrom (numberOf l)) (head .ensures)
+    (h : Short). headerFrom (a .role) h (a .rest .now)) (told (λ l. shortFrom (decimalOf l)) (head .ensures)
     (short-of .ensures) (header .given .1)) ∙ yes _ _ _ (sym (has-more .ensures) ∙ if1 .taken))
 
 returns-2 : tie.Need-returns-2
@@ -29,7 +29,7 @@ returns-2 c =
     let head = c .before .before .before .before .before .before .head in
     let short-of = c .before .before .before .before .before .short-of in
     let header = c .before .before .before .header in
-    sym (ap (λ (h : Short). headerFrom (a .role) h (a .rest .now)) (told (λ l. shortFrom (numberOf l))
+    sym (ap (λ (h : Short). headerFrom (a .role) h (a .rest .now)) (told (λ l. shortFrom (decimalOf l))
     (head .ensures) (short-of .ensures) (header .given .1)) ∙ no _ _ _ (sym (c .before .has-more .ensures) ∙
     c .if1 .left))
 
@@ -39,7 +39,7 @@ returns-3 c =
     let a = c .before .before .before .before .before .args in
     let head = c .before .before .before .head in
     let short-of = c .before .before .short-of in
-    sym (ap (λ (h : Short). headerFrom (a .role) h (a .rest .now)) (told (λ l. shortFrom (numberOf l))
+    sym (ap (λ (h : Short). headerFrom (a .role) h (a .rest .now)) (told (λ l. shortFrom (decimalOf l))
     (head .ensures) (short-of .ensures) (c .enum-told .given .1)))
 
 pub with-header-spec : {M : Type 1} → statement M

@@ -4,7 +4,7 @@ use borrow.Author.Needs.{needs}
 use Rattle.script_words.proofs.Texts.{told}
 use Rattle.laws.specs.Codes.{codes}
 use Rattle.script_words.specs.Words.{same}
-use Rattle.script_words.specs.Numbers.{numberOf, sizeFrom}
+use Rattle.script_words.specs.Numbers.{decimalOf, sizeFrom}
 use Rattle.script_lines.specs.Calls.{withQueue, queueFrom}
 use Rattle.laws.proofs.Pick.{yes, no}
 use Rattle.script_lines.proofs.calls.with_queue.Statement.{statement}
@@ -20,7 +20,7 @@ returns c =
     let tail = c .before .before .before .before .tail in
     let size-of = c .before .before .before .size-of in
     sym (yes _ _ _ (told (λ l. same l (codes "queue")) (head .ensures) (is .ensures) (if1 .taken)) ∙ ap (queueFrom
-    (a .role) (a .header)) (told (λ l. sizeFrom 70000 (numberOf l)) (tail .ensures) (size-of .ensures)
+    (a .role) (a .header)) (told (λ l. sizeFrom 70000 (decimalOf l)) (tail .ensures) (size-of .ensures)
     (c .before .length .given .1)))
 
 returns-2 : tie.Need-returns-2
@@ -33,7 +33,7 @@ returns-2 c =
     let tail = c .before .before .before .tail in
     let size-of = c .before .before .size-of in
     sym (yes _ _ _ (told (λ l. same l (codes "queue")) (head .ensures) (is .ensures) (if1 .taken)) ∙ ap (queueFrom
-    (a .role) (a .header)) (told (λ l. sizeFrom 70000 (numberOf l)) (tail .ensures) (size-of .ensures)
+    (a .role) (a .header)) (told (λ l. sizeFrom 70000 (decimalOf l)) (tail .ensures) (size-of .ensures)
     (c .enum-told .given .1)))
 
 returns-3 : tie.Need-returns-3

@@ -2,8 +2,8 @@
 use mathlib.Core.Path.{sym, ap, _∙_}
 use borrow.Author.Needs.{needs}
 use Rattle.script_words.proofs.Texts.{told}
-use Rattle.script_words.specs.Numbers.{numberOf, sizeFrom}
-use Rattle.script_lines.specs.Calls.{withRoom, inRoom, largestRoom}
+use Rattle.script_words.specs.Numbers.{decimalOf, sizeFrom}
+use Rattle.script_lines.specs.Calls.{withRoom, roomFrom, largestRoom}
 use Rattle.laws.proofs.Pick.{yes, no}
 use Rattle.script_lines.proofs.calls.with_room.Statement.{statement}
 use Rattle.script_lines.proofs.calls.with_room.Tie as tie
@@ -16,8 +16,8 @@ returns c =
     let a = c .before .before .before .before .before .before .before .before .args in
     let tail = c .before .before .before .before .tail in
     let size-of = c .before .before .before .size-of in
-    sym (yes _ _ _ (sym (has-more .ensures) ∙ if1 .taken) ∙ ap (inRoom (a .call)) (told (λ l. sizeFrom largestRoom
-    (numberOf l)) (tail .ensures) (size-of .ensures) (c .before .room .given .1)))
+    sym (yes _ _ _ (sym (has-more .ensures) ∙ if1 .taken) ∙ ap (roomFrom (a .call)) (told (λ l. sizeFrom largestRoom
+    (decimalOf l)) (tail .ensures) (size-of .ensures) (c .before .room .given .1)))
 
 returns-2 : tie.Need-returns-2
 unfolding withRoom
@@ -27,8 +27,8 @@ returns-2 c =
     let a = c .before .before .before .before .before .before .before .args in
     let tail = c .before .before .before .tail in
     let size-of = c .before .before .size-of in
-    sym (yes _ _ _ (sym (has-more .ensures) ∙ if1 .taken) ∙ ap (inRoom (a .call)) (told (λ l. sizeFrom largestRoom
-    (numberOf l)) (tail .ensures) (size-of .ensures) (c .enum-told .given .1)))
+    sym (yes _ _ _ (sym (has-more .ensures) ∙ if1 .taken) ∙ ap (roomFrom (a .call)) (told (λ l. sizeFrom largestRoom
+    (decimalOf l)) (tail .ensures) (size-of .ensures) (c .enum-told .given .1)))
 
 returns-3 : tie.Need-returns-3
 unfolding withRoom

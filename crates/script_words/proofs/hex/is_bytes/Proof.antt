@@ -42,7 +42,7 @@ returns-5 c =
     let if1 = c .before .before .before .before .if1 in
     let if2 = c .before .before .before .if2 in
     let if3 = c .before .before .if3 in
-    c .all-digits .ensures ∙ sym (no _ _ _ (sym (is .ensures) ∙ if1 .left) ∙ no _ _ _ (ne-eqb _ _ (if2 .left)) ∙ no _
+    c .all-hex .ensures ∙ sym (no _ _ _ (sym (is .ensures) ∙ if1 .left) ∙ no _ _ _ (ne-eqb _ _ (if2 .left)) ∙ no _
     _ _ (ne-eqb _ _ (if3 .left)) ∙ no _ _ _ (le-ltb _ _ (c .before .if4 .left)))
 
 pub is-bytes-spec : {M : Type 1} → statement M

@@ -10,22 +10,22 @@ use Rattle.script_words.proofs.numbers.id_of.Tie as tie
 returns : tie.Need-returns
 unfolding idFrom
 returns c =
-    let number-of = c .before .before .before .before .number-of in
+    let decimal-of = c .before .before .before .before .decimal-of in
     let n = c .before .before .n in
-    sym (ap idFrom (sym (number-of .ensures) ∙ n .given .1) ∙ yes _ _ _ (le-leb _ _ (c .if1 .taken)))
+    sym (ap idFrom (sym (decimal-of .ensures) ∙ n .given .1) ∙ yes _ _ _ (le-leb _ _ (c .if1 .taken)))
 
 returns-2 : tie.Need-returns-2
 unfolding idFrom
 returns-2 c =
-    let number-of = c .before .before .before .before .number-of in
+    let decimal-of = c .before .before .before .before .decimal-of in
     let n = c .before .before .n in
-    sym (ap idFrom (sym (number-of .ensures) ∙ n .given .1) ∙ no _ _ _ (lt-leb _ _ (c .if1 .left)))
+    sym (ap idFrom (sym (decimal-of .ensures) ∙ n .given .1) ∙ no _ _ _ (lt-leb _ _ (c .if1 .left)))
 
 returns-3 : tie.Need-returns-3
 unfolding idFrom
 returns-3 c =
-    let number-of = c .before .before .number-of in
-    sym (ap idFrom (sym (number-of .ensures) ∙ c .enum-told .given .1))
+    let decimal-of = c .before .before .decimal-of in
+    sym (ap idFrom (sym (decimal-of .ensures) ∙ c .enum-told .given .1))
 
 pub id-of-spec : {M : Type 1} → statement M
 id-of-spec =

@@ -10,22 +10,22 @@ use Rattle.script_words.proofs.numbers.short_of.Tie as tie
 returns : tie.Need-returns
 unfolding shortFrom
 returns c =
-    let number-of = c .before .before .before .before .number-of in
+    let decimal-of = c .before .before .before .before .decimal-of in
     let n = c .before .before .n in
-    sym (ap shortFrom (sym (number-of .ensures) ∙ n .given .1) ∙ yes _ _ _ (le-leb _ _ (c .if1 .taken)))
+    sym (ap shortFrom (sym (decimal-of .ensures) ∙ n .given .1) ∙ yes _ _ _ (le-leb _ _ (c .if1 .taken)))
 
 returns-2 : tie.Need-returns-2
 unfolding shortFrom
 returns-2 c =
-    let number-of = c .before .before .before .before .number-of in
+    let decimal-of = c .before .before .before .before .decimal-of in
     let n = c .before .before .n in
-    sym (ap shortFrom (sym (number-of .ensures) ∙ n .given .1) ∙ no _ _ _ (lt-leb _ _ (c .if1 .left)))
+    sym (ap shortFrom (sym (decimal-of .ensures) ∙ n .given .1) ∙ no _ _ _ (lt-leb _ _ (c .if1 .left)))
 
 returns-3 : tie.Need-returns-3
 unfolding shortFrom
 returns-3 c =
-    let number-of = c .before .before .number-of in
-    sym (ap shortFrom (sym (number-of .ensures) ∙ c .enum-told .given .1))
+    let decimal-of = c .before .before .decimal-of in
+    sym (ap shortFrom (sym (decimal-of .ensures) ∙ c .enum-told .given .1))
 
 pub short-of-spec : {M : Type 1} → statement M
 short-of-spec =

@@ -11,24 +11,24 @@ returns : tie.Need-returns
 unfolding sizeFrom
 returns c =
     let a = c .before .before .before .before .before .before .args in
-    let number-of = c .before .before .before .before .number-of in
+    let decimal-of = c .before .before .before .before .decimal-of in
     let n = c .before .before .n in
-    sym (ap (sizeFrom (a .most)) (sym (number-of .ensures) ∙ n .given .1) ∙ yes _ _ _ (le-leb _ _ (c .if1 .taken)))
+    sym (ap (sizeFrom (a .most)) (sym (decimal-of .ensures) ∙ n .given .1) ∙ yes _ _ _ (le-leb _ _ (c .if1 .taken)))
 
 returns-2 : tie.Need-returns-2
 unfolding sizeFrom
 returns-2 c =
     let a = c .before .before .before .before .before .before .args in
-    let number-of = c .before .before .before .before .number-of in
+    let decimal-of = c .before .before .before .before .decimal-of in
     let n = c .before .before .n in
-    sym (ap (sizeFrom (a .most)) (sym (number-of .ensures) ∙ n .given .1) ∙ no _ _ _ (lt-leb _ _ (c .if1 .left)))
+    sym (ap (sizeFrom (a .most)) (sym (decimal-of .ensures) ∙ n .given .1) ∙ no _ _ _ (lt-leb _ _ (c .if1 .left)))
 
 returns-3 : tie.Need-returns-3
 unfolding sizeFrom
 returns-3 c =
     let a = c .before .before .before .before .args in
-    let number-of = c .before .before .number-of in
-    sym (ap (sizeFrom (a .most)) (sym (number-of .ensures) ∙ c .enum-told .given .1))
+    let decimal-of = c .before .before .decimal-of in
+    sym (ap (sizeFrom (a .most)) (sym (decimal-of .ensures) ∙ c .enum-told .given .1))
 
 pub size-of-spec : {M : Type 1} → statement M
 size-of-spec =

@@ -1,72 +1,53 @@
-// Puts numbers through the ration, a line each.
-//
-// The expected output, the file stdout, is worked out by hand from the rules, and none of its lines is copied from a run.
-use libc::STDOUT_FILENO;
+// Numbers through the ration.
+use crate::show;
 use ration::Grown;
 use ration::Ration;
 use ration::Spent;
 
-fn text(words: &[u8]) {
-    io::write_all(STDOUT_FILENO, words);
-}
-
-fn number(n: u32) {
-    io::print_decimal(STDOUT_FILENO, n as u64);
-}
-
-// A name and a number.
-fn item(name: &[u8], value: u32) {
-    text(name);
-    number(value);
-}
-
 // A name and a ration.
 fn amount(name: &[u8], r: Ration) {
-    text(name);
     match r {
-        Ration::Finite(n) => number(n),
-        Ration::Endless => text(b"endless"),
+        Ration::Finite(n) => show::item(name, n as u64),
+        Ration::Endless => {
+            show::text(name);
+            show::text(b"endless");
+        }
     }
 }
 
-// The end of a line.
-fn end() {
-    text(b"\n");
-}
-
 fn start(number: u16) {
-    item(b"header number ", number as u32);
+    show::item(b"header number ", number as u64);
     amount(b" starts ", Ration::from_header(number));
-    end();
+    show::end();
 }
 
 // A ration, and a number that is put to it.
 fn asked(r: Ration, name: &[u8], n: u32) {
     amount(b"ration ", r);
-    item(name, n);
+    show::item(name, n as u64);
 }
 
 fn spend(r: Ration, n: u32) {
     asked(r, b" spend ", n);
     match r.spend(n) {
         Spent::Left(left) => amount(b": left ", left),
-        Spent::NotEnough => text(b": not enough"),
+        Spent::NotEnough => show::text(b": not enough"),
     }
-    end();
+    show::end();
 }
 
 fn grown(answer: Grown) {
     match answer {
         Grown::To(more) => amount(b": now ", more),
-        Grown::PastLargest => text(b": past the largest"),
+        Grown::PastLargest => show::text(b": past the largest"),
     }
 }
 
 fn granted(may: bool) {
     if may {
-        text(b", may be granted\n");
+        show::text(b", may be granted\n");
     } else {
-        text(b", may not be granted\n");
+        show::text(b", may not be granted\n");
     }
 }
 
@@ -116,7 +97,7 @@ fn grows() {
     grow(Ration::Endless, 0, 1);
 }
 
-fn main() {
+pub(crate) fn all() {
     starts();
     spends();
     grows();

@@ -1,15 +1,15 @@
--- `all_digits` meets its contract. The loop's invariant: the answer for what is left is the answer for the whole.
+-- `all_hex` meets its contract. The loop's invariant: the answer for what is left is the answer for the whole.
 use mathlib.Core.Path.{_≡_, refl, sym, _∙_}
 use lib.ListN.{length, drop}
 use Prim.Native.Nat.{_≤_, _-_}
 use borrow.Author.Needs.{needs}
 use Rattle.script_words.proofs.Digits.{digits-step, digits-stop, digits-end}
-use Rattle.script_words.specs.Hex.{allDigits}
-use Rattle.script_words.proofs.hex.all_digits.Statement.{statement}
-use Rattle.script_words.proofs.hex.all_digits.Tie as tie
+use Rattle.script_words.specs.Hex.{allHex}
+use Rattle.script_words.proofs.hex.all_hex.Statement.{statement}
+use Rattle.script_words.proofs.hex.all_hex.Tie as tie
 
 abbrev Inv-loop : tie.InvT-loop
-Inv-loop s i₀ i = (i ≤ length s) × (allDigits (drop i s) ≡ allDigits s)
+Inv-loop s i₀ i = (i ≤ length s) × (allHex (drop i s) ≡ allHex s)
 
 abbrev μ-loop : tie.MeasureT-loop
 μ-loop s i₀ i = length s - i
@@ -42,8 +42,8 @@ returns-2 c =
     let loop = c .before .loop in
     sym (digits-end (a .s .now) (loop .i) (c .loop-test .left)) ∙ loop .inv .1
 
-pub all-digits-spec : {M : Type 1} → statement M
-all-digits-spec =
+pub all-hex-spec : {M : Type 1} → statement M
+all-hex-spec =
     tie.close
     (tie.spec
     Inv-loop μ-loop loop-holds (λ c. search needs) (λ c κs. search needs) returns (λ c. search needs)

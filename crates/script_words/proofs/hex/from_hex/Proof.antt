@@ -1,4 +1,4 @@
--- `decode` meets its contract. The loop's invariant: the first i bytes are laid.
+-- `from_hex` meets its contract. The loop's invariant: the first i bytes are laid.
 use Prim.Native.Nat.{ℕ, _≤_, _-_, _/_, min}
 use mathlib.Core.List.{List}
 use lib.ListN.{length, set, length-set}
@@ -7,12 +7,12 @@ use mathlib.Core.Path.{_≡_, refl, sym, ap, _∙_}
 use native.Mathlib.Omega.{arith}
 use borrow.Author.Needs.{needs}
 use Rattle.script_words.proofs.Digits.{laid-step, bytes-at, bytes-length}
-use Rattle.script_words.specs.Hex.{bytesOf, laid}
-use Rattle.script_words.proofs.hex.decode.Statement.{statement}
-use Rattle.script_words.proofs.hex.decode.Tie as tie
+use Rattle.script_words.specs.Hex.{bytesFromHex, laid}
+use Rattle.script_words.proofs.hex.from_hex.Statement.{statement}
+use Rattle.script_words.proofs.hex.from_hex.Tie as tie
 
 abbrev Inv-loop : tie.InvT-loop
-Inv-loop s dst₀ n i₀ dst i = (i ≤ n) × (n ≡ min (length s / 2) (length dst₀)) × (length dst ≡ length dst₀) × (dst ≡ laid dst₀ (bytesOf s) i)
+Inv-loop s dst₀ n i₀ dst i = (i ≤ n) × (n ≡ min (length s / 2) (length dst₀)) × (length dst ≡ length dst₀) × (dst ≡ laid dst₀ (bytesFromHex s) i)
 
 abbrev μ-loop : tie.MeasureT-loop
 μ-loop s dst₀ n i₀ dst i = n - i
@@ -29,9 +29,9 @@ loop-again c =
       loop .inv .1,
       simp length-set (loop .inv .2),
       ap (λ (l : List ℕ). set l (loop .i)
-          (c .byte .result)) (loop .inv .3) ∙ ap (set (laid (a .dst .now) (bytesOf (a .s .now)) (loop .i)) (loop .i))
+          (c .byte .result)) (loop .inv .3) ∙ ap (set (laid (a .dst .now) (bytesFromHex (a .s .now)) (loop .i)) (loop .i))
           (c .byte .ensures ∙ sym (bytes-at (loop .i) (a .s .now) (omega arith))) ∙ laid-step (loop .i) (a .dst .now)
-          (bytesOf (a .s .now)) (omega arith) (omega (arith, bytes-length (a .s .now))) ∙ ap (laid (a .dst .now) (bytesOf
+          (bytesFromHex (a .s .now)) (omega arith) (omega (arith, bytes-length (a .s .now))) ∙ ap (laid (a .dst .now) (bytesFromHex
           (a .s .now))) (sym (add-one (loop .i))),
     )
 
@@ -43,11 +43,11 @@ returns c =
     let e : (loop .i) ≡ least .result = omega arith in (
       least .ensures,
       loop .inv .3 ∙ ap (laid (a .dst .now)
-          (bytesOf (a .s .now))) e,
+          (bytesFromHex (a .s .now))) e,
     )
 
-pub decode-spec : {M : Type 1} → statement M
-decode-spec =
+pub from-hex-spec : {M : Type 1} → statement M
+from-hex-spec =
     tie.close
     (tie.spec
     Inv-loop μ-loop (λ c κs. search needs) loop-holds (λ c. search needs) (λ c. search needs) (λ c. search needs)

@@ -1,4 +1,4 @@
--- `encode` meets its contract. The loop's invariant: the digits of the first i bytes are laid.
+-- `to_hex` meets its contract. The loop's invariant: the digits of the first i bytes are laid.
 use mathlib.Core.Path.{_≡_, refl, ap, _∙_}
 use lib.ListN.{length, set, length-set}
 use mathlib.Core.List.{List}
@@ -7,8 +7,8 @@ use native.Mathlib.Omega.{arith}
 use borrow.Author.Needs.{needs}
 use Rattle.script_words.proofs.Digits.{laid-two}
 use Rattle.script_words.specs.Hex.{textOf, laid}
-use Rattle.script_words.proofs.hex.encode.Statement.{statement}
-use Rattle.script_words.proofs.hex.encode.Tie as tie
+use Rattle.script_words.proofs.hex.to_hex.Statement.{statement}
+use Rattle.script_words.proofs.hex.to_hex.Tie as tie
 
 abbrev Inv-loop : tie.InvT-loop
 Inv-loop src dst₀ n i₀ dst i = (i ≤ n) × (n ≡ min (length src) (length dst₀ / 2)) × (length dst ≡ length dst₀) × (dst ≡ laid dst₀ (textOf src) (2 * i))
@@ -58,8 +58,8 @@ returns c =
           (a .dst .now) (textOf (a .src .now)) (2 * k)) e,
     )
 
-pub encode-spec : {M : Type 1} → statement M
-encode-spec =
+pub to-hex-spec : {M : Type 1} → statement M
+to-hex-spec =
     tie.close
     (tie.spec
     Inv-loop μ-loop (λ c κs. search needs) loop-holds (λ c. search needs) glyph-requires (λ c. search needs)
