@@ -12,21 +12,21 @@ use Rattle.protocol.specs.Receipt.{receipt}
 use Rattle.protocol.specs.Judge.{judge}
 use Rattle.protocol.specs.Call.{receiveRule}
 use Rattle.protocol.specs.Result.{bytesOfAll, receiveCall}
-use Rattle.clock_numbers.specs.Arithmetic.{whole, 0·75, 0·25, 0·875, 0·125}
+use Rattle.clock_numbers.specs.Arithmetic.{wholeNumber, 0·75, 0·25, 0·875, 0·125}
 use Rattle.clock_sample.specs.Clock.{newClock, first, later, updated, goodClock, sampleRule}
 use Rattle.clock_limit.specs.Limit.{goodSetting, measured, limitRule}
 use Rattle.bench.specs.Row.{connectionAfter, limitsAfter, holds, All}
-use Rattle.bench.specs.Table.{table}
+use Rattle.bench.specs.Table.{caseTable}
 
 -- one row, and the rows behind it
 infixr 5 _and_
 _and_ : {A B : Type 0} → A → B → A × B
 a and b = (a, b)
 
-pub every-row : All holds table
+pub every-row : All holds caseTable
 unfolding pick fromHeader kindOf readMessage parseHeader typed allowed effectiveIncrement readConnectionHeader parseConnectionHeader settle
     wellFormed allFormed sessionFormed receipt judge receiveRule bytesOfAll receiveCall
-    limitsAfter newClock first later updated goodClock sampleRule goodSetting measured limitRule whole 0·75 0·25 0·875 0·125 ofInt add sub mul div lt le
+    limitsAfter newClock first later updated goodClock sampleRule goodSetting measured limitRule wholeNumber 0·75 0·25 0·875 0·125 ofInt add sub mul div lt le
     connectionAfter holds All
 every-row =
     -- 1

@@ -37,16 +37,16 @@ pub record Came : Type 0 where
   pub over : Bool
 
 -- `Result` carries a refusal or a violation by its number
-pub data Row : Type 0 where
+pub data CaseRow : Type 0 where
   -- a connection header, and the starting ration that it grants
-  header : (bytes : List ℕ) → Result Ration → Row
+  header-case : (bytes : List ℕ) → Result Ration → CaseRow
   -- a message from a sender, or from either, and the bytes that follow its four header bytes
-  message : (from : Role) (bytes : List ℕ) → Result (Message × List ℕ) → Row
-  message-of-either : (bytes : List ℕ) → Result (Message × List ℕ) → Row
+  message-case : (from : Role) (bytes : List ℕ) → Result (Message × List ℕ) → CaseRow
+  message-of-either : (bytes : List ℕ) → Result (Message × List ℕ) → CaseRow
   -- a message to an end that was just made and has received `earlier`, with the ration as it stands before
-  received : (end : Setup) (earlier : List (List ℕ)) (watched : Watched) (before : Ration) (input : List ℕ) → Came → Row
+  receive-case : (end : Setup) (earlier : List (List ℕ)) (watched : Watched) (before : Ration) (input : List ℕ) → Came → CaseRow
   -- samples to a new clock, and the limit after each
-  limits : (setting : Setting) (samples : List ℕ) → List (Result Float) → Row
+  limits : (setting : Setting) (samples : List ℕ) → List (Result Float) → CaseRow
 
 -- ---- headers and messages
 
@@ -105,14 +105,14 @@ limitsAfter setting clock (R ∷ Rs) = let next = sampleRule clock R .1 in limit
 
 -- ---- what a row claims
 
-unfoldable pub holds : Row → Type 0
-holds (header bytes must) = granted (readConnectionHeader bytes) ≡ must
-holds (message from bytes must) = followed bytes (readMessage from bytes) ≡ must
+unfoldable pub holds : CaseRow → Type 0
+holds (header-case bytes must) = granted (readConnectionHeader bytes) ≡ must
+holds (message-case from bytes must) = followed bytes (readMessage from bytes) ≡ must
 holds (message-of-either bytes must) = (from : Role) → followed bytes (readMessage from bytes) ≡ must
-holds (received end earlier w before input must) = Receives (connectionAfter (fresh end) earlier) w before input must
+holds (receive-case end earlier w before input must) = Receives (connectionAfter (fresh end) earlier) w before input must
 holds (limits setting samples must) = limitsAfter setting newClock samples ≡ must
 
 -- a claim about each row of a list
-unfoldable pub All : (Row → Type 0) → List Row → Type 0
+unfoldable pub All : (CaseRow → Type 0) → List CaseRow → Type 0
 All claim [] = Unit {0}
 All claim (r ∷ rs) = claim r × All claim rs

@@ -13,8 +13,8 @@ use Rattle.state.specs.declared.Setup.{Setup}
 use Rattle.protocol.specs.Judge as report
 use Rattle.clock_limit.specs.declared.Setting.{Setting}
 use Rattle.clock_limit.specs.declared.Setting.the-variants.{Measured}
-use Rattle.clock_numbers.specs.Arithmetic.{_⊘_, whole}
-use Rattle.bench.specs.Row.{inbound, outbound, Came, Row, header, message, message-of-either, received, limits}
+use Rattle.clock_numbers.specs.Arithmetic.{_⊘_, wholeNumber}
+use Rattle.bench.specs.Row.{inbound, outbound, Came, CaseRow, header-case, message-case, message-of-either, receive-case, limits}
 
 -- ---- what the rows of cases 4 and 5 share: a server just made, and session 5
 
@@ -53,35 +53,35 @@ breaks number ration =
 -- ---- what the row of case 7 names: the widest limits
 
 abbrev pub wide : Setting
-wide = Measured (whole 1) (whole 60_000)
+wide = Measured (wholeNumber 1) (wholeNumber 60_000)
 
 -- ---- the table
 
-abbrev pub table : List Row
-table =
+abbrev pub caseTable : List CaseRow
+caseTable =
     -- 1: ration 1,024; header number 0: endless; version 02: 22
-    header (0x4A ∷ 0x6D ∷ 0x75 ∷ 0x78 ∷ 0x01 ∷ 0x00 ∷ 0x04 ∷ 0x00 ∷ []) (ok (Finite 1_024))
-    ∷ header (0x4A ∷ 0x6D ∷ 0x75 ∷ 0x78 ∷ 0x01 ∷ 0x00 ∷ 0x00 ∷ 0x00 ∷ []) (ok Endless)
-    ∷ header (0x4A ∷ 0x6D ∷ 0x75 ∷ 0x78 ∷ 0x02 ∷ 0x00 ∷ 0x04 ∷ 0x00 ∷ []) (violation 22)
+    header-case (0x4A ∷ 0x6D ∷ 0x75 ∷ 0x78 ∷ 0x01 ∷ 0x00 ∷ 0x04 ∷ 0x00 ∷ []) (ok (Finite 1_024))
+    ∷ header-case (0x4A ∷ 0x6D ∷ 0x75 ∷ 0x78 ∷ 0x01 ∷ 0x00 ∷ 0x00 ∷ 0x00 ∷ []) (ok Endless)
+    ∷ header-case (0x4A ∷ 0x6D ∷ 0x75 ∷ 0x78 ∷ 0x02 ∷ 0x00 ∷ 0x04 ∷ 0x00 ∷ []) (violation 22)
     -- 2: open, session 5, "abc"
-    ∷ message Client (0x90 ∷ 0x05 ∷ 0x00 ∷ 0x03 ∷ 0x61 ∷ 0x62 ∷ 0x63 ∷ [])
+    ∷ message-case Client (0x90 ∷ 0x05 ∷ 0x00 ∷ 0x03 ∷ 0x61 ∷ 0x62 ∷ 0x63 ∷ [])
     (ok (Data true false false false 5 3, 0x61 ∷ 0x62 ∷ 0x63 ∷ []))
     -- 3: Abort, partial; from a client 24; Close; 20; 21
-    ∷ message Server (0x22 ∷ 0x07 ∷ 0x00 ∷ 0x00 ∷ []) (ok (Abort true 7 0, []))
-    ∷ message Client (0x22 ∷ 0x07 ∷ 0x00 ∷ 0x00 ∷ []) (violation 24)
-    ∷ message Server (0x30 ∷ 0x07 ∷ 0x00 ∷ 0x00 ∷ []) (ok (Close 7, []))
+    ∷ message-case Server (0x22 ∷ 0x07 ∷ 0x00 ∷ 0x00 ∷ []) (ok (Abort true 7 0, []))
+    ∷ message-case Client (0x22 ∷ 0x07 ∷ 0x00 ∷ 0x00 ∷ []) (violation 24)
+    ∷ message-case Server (0x30 ∷ 0x07 ∷ 0x00 ∷ 0x00 ∷ []) (ok (Close 7, []))
     ∷ message-of-either (0x01 ∷ 0x00 ∷ 0x00 ∷ 0x00 ∷ []) (violation 20)
     ∷ message-of-either (0x04 ∷ 0x80 ∷ 0x00 ∷ 0x00 ∷ []) (violation 21)
     -- 4: at ration 256 Data of 256 leaves 0; of 257 gives 26; of 0 at ration 0 is taken
-    ∷ received server header-and-open (inbound 5) (Finite 256) (data-for-5 256)
+    ∷ receive-case server header-and-open (inbound 5) (Finite 256) (data-for-5 256)
     (takes 260 (Data false false false false 5 256) (Finite 0))
-    ∷ received server header-and-open (inbound 5) (Finite 256) (data-for-5 257) (breaks 26 (Finite 256))
-    ∷ received server spent (inbound 5) (Finite 0) (data-for-5 0) (takes 4 (Data false false false false 5 0) (Finite 0))
+    ∷ receive-case server header-and-open (inbound 5) (Finite 256) (data-for-5 257) (breaks 26 (Finite 256))
+    ∷ receive-case server spent (inbound 5) (Finite 0) (data-for-5 0) (takes 4 (Data false false false false 5 0) (Finite 0))
     -- 5: at outbound 2,147,483,000, 647 more are taken, 648 more give 27
-    ∷ received server raised (outbound 5) (Finite 2_147_483_000) (increment-for-5 647)
+    ∷ receive-case server raised (outbound 5) (Finite 2_147_483_000) (increment-for-5 647)
     (takes 4 (IncrementRation 0 5 647) (Finite 2_147_483_647))
-    ∷ received server raised (outbound 5) (Finite 2_147_483_000) (increment-for-5 648)
+    ∷ receive-case server raised (outbound 5) (Finite 2_147_483_000) (increment-for-5 648)
     (breaks 27 (Finite 2_147_483_000))
     -- 7: samples 100, 100, 180, wide limits: 300, 250, 302.5
-    ∷ limits wide (100 ∷ 100 ∷ 180 ∷ []) (ok (whole 300) ∷ ok (whole 250) ∷ ok (whole 605 ⊘ whole 2) ∷ [])
+    ∷ limits wide (100 ∷ 100 ∷ 180 ∷ []) (ok (wholeNumber 300) ∷ ok (wholeNumber 250) ∷ ok (wholeNumber 605 ⊘ wholeNumber 2) ∷ [])
     ∷ []

@@ -73,9 +73,9 @@ module _ (effect : Taken → Effect) where
   stepped p ask e q s = ap (decision effect) s ∙ step ask ∙ passed p e (andThen effect ask) q
 
   -- a step that is asked for behind a gate
-  pub asked-behind : {g h : Gate} (p : Plan Unit) (r : Result Taken) → gateAs g ≡ toGate p → g ≡ h
+  pub stepped-behind : {g h : Gate} (p : Plan Unit) (r : Result Taken) → gateAs g ≡ toGate p → g ≡ h
       → behind (gateAs h) refuse (decision effect r) ≡ afterChecks p effect r
-  asked-behind p r e q = ap (λ (x : Result Unit). behind x refuse (decision effect r)) (sym (ap gateAs q) ∙ e)
+  stepped-behind p r e q = ap (λ (x : Result Unit). behind x refuse (decision effect r)) (sym (ap gateAs q) ∙ e)
 
   pub by-rule : (p : Plan Unit) (ask : Plan Taken) {r : Result Taken} → r ≡ toStepped ask
       → afterChecks p effect r ≡ decided (followedBy p (andThen effect ask))

@@ -19,7 +19,7 @@ use Rattle.protocol.specs.Plan.{Plan, stop, check, take, settle}
 use Rattle.protocol.specs.Message.{SessionMessage, numbered}
 use Rattle.protocol.specs.Receipt as rule
 use Rattle.protocol.specs.Ask.{openOf, openAsk}
-use Rattle.protocol.specs.Judge.{done, Out, sent, refuse, with-session}
+use Rattle.protocol.specs.Judge.{done, Output, sent, refuse, setting-session}
 use Rattle.protocol.specs.Result.{Given, given, bytesOfAll, inRoom}
 use Rattle.protocol.proofs.Plans.{Takes}
 use Rattle.session.specs.declared.Sent.{Sent}
@@ -69,22 +69,22 @@ sent-fits n (session.Abort partial) room h = four (msg.Abort partial n 0) room h
 sent-fits n session.Close room h = four (msg.Close n) room h
 
 module _ (c : Connection) (n : ℕ) {x : Stepped} {res : Given} where
-  pub step-refused : {r : Refusal} → x ≡ stepped.Refused r → res ≡ given c [] (refuse (refusalNumber r)) → res ≡ given c [] (decision (with-session c n (c .last) done) (steppedAs x))
+  pub step-refused : {r : Refusal} → x ≡ stepped.Refused r → res ≡ given c [] (refuse (refusalNumber r)) → res ≡ given c [] (decision (setting-session c n (c .last) done) (steppedAs x))
   step-refused e g = rw e g
 
   pub step-taken : {t : Taken} {next : Connection} → x ≡ stepped.Taken t → Quiet (steppedAs x) → next ≡ withSession n (t .session) c
-      → res ≡ giving next 0 → res ≡ given c [] (decision (with-session c n (c .last) done) (steppedAs x))
+      → res ≡ giving next 0 → res ≡ given c [] (decision (setting-session c n (c .last) done) (steppedAs x))
   step-taken {t} e q w g =
       let still : sentAs (t .sent) ≡ [] = rw e at q in
-      rw e (g ∙ taken c (with-session c n (c .last) done (takenAs t)) refl w (nothing-sent n still))
+      rw e (g ∙ taken c (setting-session c n (c .last) done (takenAs t)) refl w (nothing-sent n still))
 
   pub step-refused-in : (room : List ℕ) {r : Refusal} → x ≡ stepped.Refused r → res ≡ given c [] (refuse (refusalNumber r))
-      → (res, room) ≡ inRoom c room (decision (with-session c n (c .last) done) (steppedAs x))
+      → (res, room) ≡ inRoom c room (decision (setting-session c n (c .last) done) (steppedAs x))
   step-refused-in room e g = rw e (refusing-in c room g)
 
-  pub step-taken-in : (room : List ℕ) {t : Taken} {next : Connection} {wrote : ℕ} {last : List ℕ} {outs : List Out} → 4 ≤ length room
+  pub step-taken-in : (room : List ℕ) {t : Taken} {next : Connection} {wrote : ℕ} {last : List ℕ} {outs : List Output} → 4 ≤ length room
       → x ≡ stepped.Taken t → next ≡ withSession n (t .session) c → outs ≡ map (λ m. sent (numbered n m)) (sentAs (t .sent))
-      → (wrote, last) ≡ atFront (bytesOfAll [] outs) room → res ≡ giving next wrote → (res, last) ≡ inRoom c room (decision (with-session c n (c .last) done) (steppedAs x))
+      → (wrote, last) ≡ atFront (bytesOfAll [] outs) room → res ≡ giving next wrote → (res, last) ≡ inRoom c room (decision (setting-session c n (c .last) done) (steppedAs x))
   step-taken-in room {t} h e w o k g =
       rw (e, g)
-      (taken-in c (with-session c n (c .last) done (takenAs t)) refl w room (sent-fits n (t .sent) room h) (rw o at k))
+      (taken-in c (setting-session c n (c .last) done (takenAs t)) refl w room (sent-fits n (t .sent) room h) (rw o at k))

@@ -4,7 +4,7 @@ use Rattle.laws.specs.Result.{Result}
 use Rattle.state.specs.declared.Connection.{Connection}
 use Rattle.protocol.specs.Plan.{Plan, take}
 use Rattle.protocol.specs.Receipt.{Taken}
-use Rattle.protocol.specs.Judge.{Decision, done, with-session}
+use Rattle.protocol.specs.Judge.{Decision, done, setting-session}
 use Rattle.protocol.specs.Call.{upAndRunning, roomFor, numberIn}
 use Rattle.call_checks.specs.Deciding.{afterChecks}
 
@@ -14,4 +14,4 @@ checks c n room = upAndRunning c (roomFor 4 room (numberIn n (take tt)))
 
 -- what the step comes to counts behind them
 abbrev pub steppedIn : Connection → ℕ → ℕ → Result Taken → Decision
-steppedIn c n room r = afterChecks (checks c n room) (with-session c n (c .last) done) r
+steppedIn c n room r = afterChecks (checks c n room) (setting-session c n (c .last) done) r

@@ -12,7 +12,7 @@ use state::Connection;
 ghost use mathlib.Core.Path.{_≡_};
 ghost use Prim.Native.Nat.{_≤_};
 ghost use lib.ListN.{length};
-ghost use Rattle.protocol.specs.Judge.{with-session, done as Judge·done};
+ghost use Rattle.protocol.specs.Judge.{setting-session, done as Judge·done};
 ghost use Rattle.protocol.specs.Result.{calledAs, inRoom};
 ghost use Rattle.session.specs.Step.{steppedAs};
 ghost use Rattle.call_checks.specs.Deciding.{decision};
@@ -21,7 +21,7 @@ ghost use Rattle.call_checks.specs.Stepped.{steppedIn};
 // A call that writes what the session sends.
 fn step_taken_in(c: Connection, n: u8, stepped: Stepped, room: &mut [u8]) -> Called
     requires { ⌜ 4 ≤ length (now room) ⌝ }
-    ensures { λ r. ⌜ (calledAs r, now (room .exit)) ≡ inRoom c (now (room .entry)) (decision (with-session c n (c .last) Judge·done) (steppedAs stepped)) ⌝ }
+    ensures { λ r. ⌜ (calledAs r, now (room .exit)) ≡ inRoom c (now (room .entry)) (decision (setting-session c n (c .last) Judge·done) (steppedAs stepped)) ⌝ }
 {
     match stepped {
         Stepped::Taken(t) => {

@@ -16,7 +16,7 @@ use Rattle.protocol.specs.Slot.{slotSize, queueSize}
 use Rattle.protocol.specs.Queue.{slot, withSlot, putSlot}
 use Rattle.protocol.specs.Ask.{putAsk}
 use Rattle.protocol.specs.Connection.{at, wellFormed}
-use Rattle.protocol.specs.Judge.{done, Effect, refuse, with-session}
+use Rattle.protocol.specs.Judge.{done, Effect, refuse, setting-session}
 use Rattle.protocol.specs.Call.{putRule}
 use Rattle.protocol.specs.Result.{Given, given, ifTaken, decided, putCall}
 use Rattle.protocol.proofs.Plans.{Takes}
@@ -36,11 +36,11 @@ module _ (c : Connection) (n w : ℕ) (bytes queue : List ℕ) {x : Stepped} {re
   -- a put that its session takes
   pub put-taken : {t : Taken} {next : Connection} {last : List ℕ} → x ≡ stepped.Taken t → Quiet (steppedAs x) → next ≡ withSession n (t .session) c
       → last ≡ putInto queue n w bytes → res ≡ giving next 0
-      → (res, last) ≡ putting c n w bytes queue (decision (with-session c n (c .last) done) (steppedAs x))
+      → (res, last) ≡ putting c n w bytes queue (decision (setting-session c n (c .last) done) (steppedAs x))
   put-taken e q s l g = rw (l, step-taken c n e q s g, e)
 
   pub put-refused : {r : Refusal} → x ≡ stepped.Refused r → res ≡ given c [] (refuse (refusalNumber r))
-      → (res, queue) ≡ putting c n w bytes queue (decision (with-session c n (c .last) done) (steppedAs x))
+      → (res, queue) ≡ putting c n w bytes queue (decision (setting-session c n (c .last) done) (steppedAs x))
   put-refused e g = rw (step-refused c n e g, e)
 
 -- two queues that are the same wherever the rule takes

@@ -14,7 +14,7 @@ use state::Called;
 use state::Connection;
 ghost use mathlib.Core.Path.{_≡_};
 ghost use Rattle.protocol.specs.Plan.{take};
-ghost use Rattle.protocol.specs.Judge.{with-session, done as Judge·done};
+ghost use Rattle.protocol.specs.Judge.{setting-session, done as Judge·done};
 ghost use Rattle.protocol.specs.Call.{upAndRunning, queueOf, numberIn};
 ghost use Rattle.protocol.specs.Result.{calledAs, putCall};
 ghost use Rattle.session.specs.Step.{steppedAs};
@@ -40,7 +40,7 @@ fn conclude_put(
     queue: &mut [u8],
 ) -> Called
     requires { ⌜ Quiet (steppedAs stepped) ⌝ }
-    ensures { λ r. ⌜ (calledAs r, now (queue .exit)) ≡ putting c n waiting (now (src .entry)) (now (queue .entry)) (decision (with-session c n (c .last) Judge·done) (steppedAs stepped)) ⌝ }
+    ensures { λ r. ⌜ (calledAs r, now (queue .exit)) ≡ putting c n waiting (now (src .entry)) (now (queue .entry)) (decision (setting-session c n (c .last) Judge·done) (steppedAs stepped)) ⌝ }
 {
     match stepped {
         Stepped::Taken(t) => {

@@ -16,7 +16,7 @@ use Rattle.state.specs.declared.Stage.{Stage}
 use Rattle.state.specs.declared.Stage.the-variants as stage
 use Rattle.state.specs.declared.Connection.{Connection}
 use Rattle.protocol.specs.Plan.{Plan, stop, check, take, settle}
-use Rattle.protocol.specs.Judge.{header, Out, Decision, refuse, violate, accept}
+use Rattle.protocol.specs.Judge.{header-received, Output, Decision, refuse, violate, accept}
 use Rattle.protocol.specs.Call.{answering, headerTaken, reading, receiveGate, receiveRule}
 use Rattle.protocol.specs.Result.{Given, given, bytesOfAll, inRoom, receiveCall}
 use Rattle.call_checks.specs.declared.Gate.{Gate}
@@ -31,10 +31,10 @@ use Rattle.call_receive.specs.Replied.{replied}
 -- ---- the reading
 
 -- a good connection header
-pub header-taken : (c : Connection) (r : Role) {h : ReadHeader} {far : ℕ} {next : Connection} {outs : List Out} → h ≡ read-header.Number far
+pub header-taken : (c : Connection) (r : Role) {h : ReadHeader} {far : ℕ} {next : Connection} {outs : List Output} → h ≡ read-header.Number far
     → next ≡ withStage (stage.Up r far) c → outs ≡ answering r (c .own)
-    → record { connection = next; answer = ok (header far); outs = outs } ≡ verdict c (headerTaken c r (headerReadAs h))
-header-taken c r {h} {far} e q o = rw (e, q ∙ sets-stage c (header far) (answering r (c .own)) (stage.Up r far), o)
+    → record { connection = next; answer = ok (header-received far); outs = outs } ≡ verdict c (headerTaken c r (headerReadAs h))
+header-taken c r {h} {far} e q o = rw (e, q ∙ sets-stage c (header-received far) (answering r (c .own)) (stage.Up r far), o)
 
 -- what is read is what the stage has next
 pub staged : (c : Connection) (input : List ℕ) {v : Verdict} {s : Stage} → c .stage ≡ s → v ≡ verdict c (reading c input s)

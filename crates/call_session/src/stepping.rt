@@ -9,7 +9,7 @@ use state::Called;
 use state::Connection;
 ghost use mathlib.Core.Path.{_≡_};
 ghost use mathlib.Core.List.{[]};
-ghost use Rattle.protocol.specs.Judge.{with-session, done as Judge·done};
+ghost use Rattle.protocol.specs.Judge.{setting-session, done as Judge·done};
 ghost use Rattle.protocol.specs.Result.{given, calledAs};
 ghost use Rattle.session.specs.Step.{steppedAs};
 ghost use Rattle.protocol.specs.Plan.{take};
@@ -19,7 +19,7 @@ ghost use Rattle.call_checks.specs.Deciding.{Quiet, decision, afterChecks};
 // A call that writes nothing.
 fn step_taken(c: Connection, n: u8, stepped: Stepped) -> Called
     requires { ⌜ Quiet (steppedAs stepped) ⌝ }
-    ensures { λ r. ⌜ calledAs r ≡ given c [] (decision (with-session c n (c .last) Judge·done) (steppedAs stepped)) ⌝ }
+    ensures { λ r. ⌜ calledAs r ≡ given c [] (decision (setting-session c n (c .last) Judge·done) (steppedAs stepped)) ⌝ }
 {
     match stepped {
         Stepped::Taken(t) => {
@@ -33,7 +33,7 @@ fn step_taken(c: Connection, n: u8, stepped: Stepped) -> Called
 // What a call gives that asks a step of the session of a number.
 pub(crate) fn take_step(c: Connection, n: u8, stepped: Stepped) -> Called
     requires { ⌜ Quiet (steppedAs stepped) ⌝ }
-    ensures { λ r. ⌜ calledAs r ≡ given c [] (afterChecks (upAndRunning c (numberIn n (take tt))) (with-session c n (c .last) Judge·done) (steppedAs stepped)) ⌝ }
+    ensures { λ r. ⌜ calledAs r ≡ given c [] (afterChecks (upAndRunning c (numberIn n (take tt))) (setting-session c n (c .last) Judge·done) (steppedAs stepped)) ⌝ }
 {
     let gate = to_session(c, n);
     match gate {

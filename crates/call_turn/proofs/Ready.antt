@@ -13,7 +13,7 @@ use Rattle.laws.proofs.Pick.{yes, no}
 use Rattle.state.specs.declared.Session.{Session}
 use Rattle.state.specs.declared.Connection.{Connection}
 use Rattle.state.specs.New.{blank}
-use Rattle.protocol.specs.Ask.{ready}
+use Rattle.protocol.specs.Ask.{readySession}
 use Rattle.protocol.specs.Connection.{at}
 use Rattle.protocol.specs.Call.{nextReady}
 use Rattle.call_search.specs.declared.Found.{Found}
@@ -62,17 +62,17 @@ unfolding pick
 one-flag true = refl
 one-flag false = refl
 
-same-test : (l : List Session) (n : ℕ) → isSet (map flagOf l) n ≡ ready (getD l n blank)
-unfolding flagOf ready
+same-test : (l : List Session) (n : ℕ) → isSet (map flagOf l) n ≡ readySession (getD l n blank)
+unfolding flagOf readySession
 same-test [] n = refl
-same-test (x ∷ l) zero = one-flag (ready x)
+same-test (x ∷ l) zero = one-flag (readySession x)
 same-test (x ∷ l) (suc n) = same-test l n
 
 module _ (c : Connection) where
   -- what the search finds in the flags of a connection
-  told : nearestSet (map flagOf (c .sessions)) (c .last) ≡ pick (ready (at c (nextReady c))) (found.At (nextReady c)) found.Nothing
+  told : nearestSet (map flagOf (c .sessions)) (c .last) ≡ pick (readySession (at c (nextReady c))) (found.At (nextReady c)) found.Nothing
   unfolding nearestFound
-  told = found-same (isSet (map flagOf (c .sessions))) (λ n. ready (at c n)) (same-test (c .sessions)) (c .last)
+  told = found-same (isSet (map flagOf (c .sessions))) (λ n. readySession (at c n)) (same-test (c .sessions)) (c .last)
 
   go-at : (b : Bool) {n : ℕ} → found.At n ≡ pick b (found.At (nextReady c)) found.Nothing → n ≡ nextReady c
   unfolding pick
@@ -85,7 +85,7 @@ module _ (c : Connection) where
   go-none false e = refl
 
   pub found-next : {r : Found} {n : ℕ} → r ≡ nearestSet (map flagOf (c .sessions)) (c .last) → r ≡ found.At n → n ≡ nextReady c
-  found-next e q = go-at (ready (at c (nextReady c))) (sym q ∙ e ∙ told)
+  found-next e q = go-at (readySession (at c (nextReady c))) (sym q ∙ e ∙ told)
 
-  pub found-none : {r : Found} → r ≡ nearestSet (map flagOf (c .sessions)) (c .last) → r ≡ found.Nothing → ready (at c (nextReady c)) ≡ false
-  found-none e q = go-none (ready (at c (nextReady c))) (sym q ∙ e ∙ told)
+  pub found-none : {r : Found} → r ≡ nearestSet (map flagOf (c .sessions)) (c .last) → r ≡ found.Nothing → readySession (at c (nextReady c)) ≡ false
+  found-none e q = go-none (readySession (at c (nextReady c))) (sym q ∙ e ∙ told)

@@ -20,7 +20,7 @@ use Rattle.protocol.specs.Queue.{slot, withSlot, turnSlot}
 use Rattle.protocol.specs.Plan.{Plan, take as taking}
 use Rattle.protocol.specs.Message.{numbered}
 use Rattle.protocol.specs.Connection.{at, wellFormed}
-use Rattle.protocol.specs.Judge.{Out, sent, served, refuse, with-session}
+use Rattle.protocol.specs.Judge.{Output, sent, served, refuse, setting-session}
 use Rattle.protocol.specs.Call.{upAndRunning, roomFor, queueOf}
 use Rattle.laws.specs.Room.{overlaid, atFront}
 use Rattle.protocol.specs.Result.{Given, given, bytesOfAll}
@@ -89,15 +89,15 @@ slot-without n w y queue number within whole =
 
 module _ (c : Connection) (n : ℕ) (queue room : List ℕ) {x : Stepped} {res : Given} where
   pub turn-refused : {r : Refusal} → x ≡ stepped.Refused r → res ≡ given c [] (refuse (refusalNumber r))
-      → (res, queue, room) ≡ turnGives c queue room (decision (with-session c n n (served n)) (steppedAs x))
+      → (res, queue, room) ≡ turnGives c queue room (decision (setting-session c n n (served n)) (steppedAs x))
   turn-refused e g = rw (e, g)
 
-  pub turn-taken : {w : ℕ} {t : Taken} {next : Connection} {wrote k : ℕ} {left last : List ℕ} {outs : List Out} → n < 128 → w ≡ at c n .waiting
+  pub turn-taken : {w : ℕ} {t : Taken} {next : Connection} {wrote k : ℕ} {left last : List ℕ} {outs : List Output} → n < 128 → w ≡ at c n .waiting
       → w ≤ slotSize → length queue ≡ queueSize → turnRoom ≤ length room
       → x ≡ stepped.Taken t → next ≡ withServed c n (t .session) → outs ≡ map (λ m. sent (numbered n m)) (sentAs (t .sent))
       → (wrote, last) ≡ atFront (bytesOfAll (take (n * 256 + 256 - n * 256) (drop (n * 256) queue)) outs) room
       → k ≡ w - t .session .waiting → left ≡ takenFrom queue n w k → res ≡ reporting next n wrote
-      → (res, left, last) ≡ turnGives c queue room (decision (with-session c n n (served n)) (steppedAs x))
+      → (res, left, last) ≡ turnGives c queue room (decision (setting-session c n n (served n)) (steppedAs x))
   turn-taken {w} {t} {next} {wrote} {k} {left} {last} {outs} number waits within whole roomy e is o wr less l g =
       let bytes = bytesOfAll (slot n queue) (map (λ m. sent (numbered n m)) (sentAs (t .sent))) in
       let size = sent-fits n (slot n queue) (t .sent) (slot-length n queue number whole) in

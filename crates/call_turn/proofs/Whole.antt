@@ -13,9 +13,9 @@ use Rattle.refusal.specs.Number.{refusalNumber}
 use Rattle.state.specs.declared.Connection.{Connection}
 use Rattle.protocol.specs.Slot.{slotSize, turnRoom}
 use Rattle.protocol.specs.Plan.{Plan, take}
-use Rattle.protocol.specs.Ask.{ready}
+use Rattle.protocol.specs.Ask.{readySession}
 use Rattle.protocol.specs.Connection.{at, roleOf, exchanged, ownStart, farStart, allFormed, wellFormed}
-use Rattle.protocol.specs.Judge.{served, refuse, accept, with-session}
+use Rattle.protocol.specs.Judge.{served, refuse, accept, setting-session}
 use Rattle.protocol.specs.Call.{upAndRunning, roomFor, queueOf, nextReady, serving, turnRule}
 use Rattle.protocol.specs.Result.{Given, given, decided, turnCall}
 use Rattle.protocol.proofs.Turns.{turn-stops}
@@ -32,7 +32,7 @@ last-below c e = ltb-true _ _ (and-first (ltb (c .last) 128) (allFormed (roleOf 
 
 -- the number that is served is one, and no more waits for it than a slot holds
 pub next-number : (c : Connection) {n : ℕ} → wellFormed c ≡ true → n ≡ nextReady c → n < 128
-next-number c e q = rw q (nearest-lt (λ n. ready (at c n)) (c .last) (last-below c e))
+next-number c e q = rw q (nearest-lt (λ n. readySession (at c n)) (c .last) (last-below c e))
 
 abbrev pub checks : Connection → ℕ → ℕ → Plan Unit
 checks c queue room = upAndRunning c (roomFor turnRoom room (queueOf queue (take tt)))
@@ -43,13 +43,13 @@ module _ (c : Connection) (queue room : List ℕ) {g : Gate} (e : gateAs g ≡ t
   turn-stopped q w =
       rw w (ap (turnGives c queue room) (stopped (checks c (length queue) (length room)) e (serving c (nextReady c)) q))
 
-  pub turn-none : {res : Given} → g ≡ gate.Passed → ready (at c (nextReady c)) ≡ false → res ≡ given c [] (refuse 9) → (res, queue, room) ≡ turnCall c queue room
+  pub turn-none : {res : Given} → g ≡ gate.Passed → readySession (at c (nextReady c)) ≡ false → res ≡ given c [] (refuse 9) → (res, queue, room) ≡ turnCall c queue room
   unfolding turnCall turnRule
   turn-none q none w =
       let n = nextReady c in
       rw w
       (ap (turnGives c queue room)
-      (sym (turn-stops refuse accept (with-session c n n (served n)) (ownStart c) (farStart c) (at c n) none)
+      (sym (turn-stops refuse accept (setting-session c n n (served n)) (ownStart c) (farStart c) (at c n) none)
       ∙ passed (checks c (length queue) (length room)) e (serving c n) q))
 
   pub turn-served : {n : ℕ} {r : Given × List ℕ × List ℕ} → g ≡ gate.Passed → n ≡ nextReady c → r ≡ turnGives c queue room (decided (serving c n)) → r ≡ turnCall c queue room

@@ -2,7 +2,7 @@
 use Prim.Native.Nat.{ℕ}
 use Rattle.laws.specs.Pick.{pick}
 use Rattle.state.specs.declared.Session.{Session}
-use Rattle.protocol.specs.Ask.{ready}
+use Rattle.protocol.specs.Ask.{readySession}
 
 unfoldable pub flagOf : Session → ℕ
-flagOf x = pick (ready x) 1 0
+flagOf x = pick (readySession x) 1 0

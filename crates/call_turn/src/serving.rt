@@ -19,7 +19,7 @@ ghost use lib.ListN.{length};
 ghost use Rattle.laws.specs.Result.{ok};
 ghost use Rattle.protocol.specs.Slot.{slotSize, queueSize, turnRoom};
 ghost use Rattle.protocol.specs.Connection.{at};
-ghost use Rattle.protocol.specs.Judge.{served, with-session};
+ghost use Rattle.protocol.specs.Judge.{served, setting-session};
 ghost use Rattle.protocol.specs.Call.{serving};
 ghost use Rattle.protocol.specs.Result.{calledAs, decided};
 ghost use Rattle.session.specs.Step.{steppedAs};
@@ -69,7 +69,7 @@ fn conclude_turn(
     room: &mut [u8],
 ) -> Called
     requires { ⌜ (n < 128) × (waiting ≡ at c n .waiting) × (waiting ≤ slotSize) × (length (now queue) ≡ queueSize) × (turnRoom ≤ length (now room)) ⌝ }
-    ensures { λ r. ⌜ (calledAs r, now (queue .exit), now (room .exit)) ≡ turnGives c (now (queue .entry)) (now (room .entry)) (decision (with-session c n n (served n)) (steppedAs stepped)) ⌝ }
+    ensures { λ r. ⌜ (calledAs r, now (queue .exit), now (room .exit)) ≡ turnGives c (now (queue .entry)) (now (room .entry)) (decision (setting-session c n n (served n)) (steppedAs stepped)) ⌝ }
 {
     match stepped {
         Stepped::Taken(t) => {

@@ -9,7 +9,7 @@ use denote.Ref.{RefT, now}
 use Rattle.laws.proofs.Lists.{Bytes}
 use Rattle.wire.specs.declared.Role.{Role}
 use Rattle.capture_rules.specs.Place.{messageAt, placeAfter, stepAt}
-use Rattle.capture_rules.specs.Reading.{Reading, prepended, readUpTo, readAll, Exact}
+use Rattle.capture_rules.specs.Reading.{MessagesRead, prepended, readUpTo, readAll, Exact}
 use Rattle.capture_rules.proofs.Laws.{read-exactly}
 use Rattle.capture_reader.specs.declared.Reader.{Reader}
 use Rattle.capture_reader.specs.Capture.{firstPlace, readerAtFirst, advanced}
@@ -29,7 +29,7 @@ unfolding stepAt
 same-step from r = refl
 
 -- made on a capture, as by `read_first`, and asked until its first refusal, it gives exactly the messages whose bytes the capture has
-pub reader-exactly : (from : Role) (capture : RefT (List ℕ)) → Bytes (now capture) → (r : Reading)
+pub reader-exactly : (from : Role) (capture : RefT (List ℕ)) → Bytes (now capture) → (r : MessagesRead)
     → (r ≡ readBy (length (now capture)) from (readerAtFirst capture)) ↔ Exact from (now capture) firstPlace r
 unfolding readAll
 reader-exactly from capture bytes r =

@@ -21,7 +21,7 @@ use Rattle.wire.proofs.Inverse.{header-parsed}
 use Rattle.wire.proofs.Laws.{message-holds, read-written, write-read, read-writable}
 use Rattle.wire.proofs.Writing.{writable-has}
 use Rattle.capture_rules.specs.Place.{messageAt, placeAfter}
-use Rattle.capture_rules.specs.Reading.{Whole, wholeBytes, Reading, wholeAt, prepended, readUpTo, readAll, EachWritable, Exact}
+use Rattle.capture_rules.specs.Reading.{WholeMessage, wholeBytes, MessagesRead, wholeAt, prepended, readUpTo, readAll, EachWritable, Exact}
 use Rattle.capture_rules.proofs.Steps.{within}
 
 -- what a capture with a message at a place has there
@@ -76,7 +76,7 @@ module _ (from : Role) (s : List ℕ) (bytes : Bytes s) where
         ap (λ (l : List ℕ). header m ++ take (bodyLength m) l) (sym (drop-drop 4 place s))
         ∙ write-read from (drop place s) m (bytes-from place) (at .reads)
 
-    one-more : (r : Reading) → Exact from s (place + 4 + bodyLength m) r → Exact from s place (prepended s place (ok m) r)
+    one-more : (r : MessagesRead) → Exact from s (place + 4 + bodyLength m) r → Exact from s place (prepended s place (ok m) r)
     one-more r x =
         let k = 4 + bodyLength m in
         let j = r .end - (place + 4 + bodyLength m) in
@@ -122,7 +122,7 @@ module _ (from : Role) (s : List ℕ) (bytes : Bytes s) where
 
 module _ (from : Role) (s : List ℕ) where
   -- a message that is written at a place, with others behind it
-  module _ (place : ℕ) (w : Whole) (ws : List Whole) (tail : List ℕ) (each : EachWritable from (w ∷ ws)) (e : drop place s ≡ wholeBytes (w ∷ ws) ++ tail) where
+  module _ (place : ℕ) (w : WholeMessage) (ws : List WholeMessage) (tail : List ℕ) (each : EachWritable from (w ∷ ws)) (e : drop place s ≡ wholeBytes (w ∷ ws) ++ tail) where
     abbrev m : Message
     m = w .message
 
@@ -184,7 +184,7 @@ module _ (from : Role) (s : List ℕ) where
       go (violation i) e = refl
 
   -- messages that are written one after the other from a place on, up to an end where none stands, are what is read
-  up-to-only : (ws : List Whole) (n place end : ℕ) (tail : List ℕ) → length s ≤ place + n → EachWritable from ws
+  up-to-only : (ws : List WholeMessage) (n place end : ℕ) (tail : List ℕ) → length s ≤ place + n → EachWritable from ws
       → drop place s ≡ wholeBytes ws ++ tail → end ≡ place + length (wholeBytes ws) → ((m : Message) → messageAt from s end ≡ ok m → ⊥)
       → record { messages = ws; end = end } ≡ readUpTo n from s place
   unfolding readUpTo
@@ -196,11 +196,11 @@ module _ (from : Role) (s : List ℕ) where
       let after = place + 4 + bodyLength (w .message) in
       let rest =
       up-to-only ws n after end tail (omega arith) (each .2) (next-same place w ws tail each e) (end-same place w ws tail each e end q) refuses in
-      ap (λ (x : Whole). record { messages = x ∷ ws; end = end }) (whole-same place w ws tail each e)
+      ap (λ (x : WholeMessage). record { messages = x ∷ ws; end = end }) (whole-same place w ws tail each e)
       ∙ ap (prepended s place (ok (w .message))) rest
       ∙ ap (λ (r : Result Message). prepended s place r (readUpTo n from s (placeAfter place r))) (stands-there place w ws tail each e)
 
-  all-only : (place : ℕ) (r : Reading) → Exact from s place r → r ≡ readAll from s place
+  all-only : (place : ℕ) (r : MessagesRead) → Exact from s place r → r ≡ readAll from s place
   unfolding readAll
   all-only place r x =
       let n = r .end - place in
@@ -208,5 +208,5 @@ module _ (from : Role) (s : List ℕ) where
       (sym (take-append-drop n (drop place s)) ∙ ap (λ (l : List ℕ). l ++ drop n (drop place s)) (sym (x .bytes))) (x .ends) (x .stops)
 
 -- until the first refusal reading gives exactly the messages whose bytes the capture has, from any place, and it ends
-pub read-exactly : (from : Role) (s : List ℕ) → Bytes s → (place : ℕ) (r : Reading) → (r ≡ readAll from s place) ↔ Exact from s place r
+pub read-exactly : (from : Role) (s : List ℕ) → Bytes s → (place : ℕ) (r : MessagesRead) → (r ≡ readAll from s place) ↔ Exact from s place r
 read-exactly from s bytes place r = (λ e. subst (Exact from s place) (sym e) (all-exact from s bytes place), all-only from s place r)

@@ -3,7 +3,7 @@ use clock_limit::Limit;
 use clock_limit::Setting;
 use clock_limit::limit_of;
 use clock_sample::Clock;
-use clock_sample::Outcome;
+use clock_sample::SampleAnswer;
 use libc::STDOUT_FILENO;
 
 fn text(bytes: &[u8]) {
@@ -70,8 +70,8 @@ fn sample(clock: Clock, r: u32) -> Clock {
     text(b", sample ");
     io::print_decimal(STDOUT_FILENO, r as u64);
     match outcome {
-        Outcome::Taken => text(b": taken, "),
-        Outcome::BadValue => text(b": refused 12, "),
+        SampleAnswer::Taken => text(b": taken, "),
+        SampleAnswer::BadValue => text(b": refused 12, "),
     }
     write_clock(after);
     text(b"\n");

@@ -5,7 +5,7 @@ use mathlib.Core.List.{List, [], _∷_}
 use Prim.Native.Nat.{ℕ}
 use lib.Ieee.{Float}
 use Rattle.laws.specs.Result.{ok}
-use Rattle.clock_numbers.specs.Arithmetic.{whole, Between}
+use Rattle.clock_numbers.specs.Arithmetic.{wholeNumber, Between}
 use Rattle.clock_sample.specs.declared.Clock.{Clock}
 use Rattle.clock_sample.specs.Clock.{newClock, updated, goodSample, sampleRule}
 use Rattle.clock_limit.specs.declared.Setting.{Setting}
@@ -19,7 +19,7 @@ clockAfter clock (R ∷ Rs) = clockAfter (sampleRule clock R .1) Rs
 
 -- no good sample and no good setting is refused, and a measured limit lies between floor and ceiling
 pub record Sound (clock : Clock) : Type 0 where
-  pub takes : (R : ℕ) → goodSample R ≡ true → sampleRule clock R ≡ (ok tt, updated clock (whole R))
+  pub takes : (R : ℕ) → goodSample R ≡ true → sampleRule clock R ≡ (ok tt, updated clock (wholeNumber R))
   pub limits : (setting : Setting) → goodSetting setting ≡ true → limitRule clock setting ≡ ok (limitUnder setting clock)
   pub between : (floor ceiling : Float) → goodSetting (Measured floor ceiling) ≡ true
       → Between floor ceiling (limitUnder (Measured floor ceiling) clock)

@@ -5,7 +5,7 @@ use Rattle.laws.specs.Pick.{pick}
 use Rattle.laws.specs.Result.{Result, ok, refused}
 use Rattle.refusal.specs.Number.{refusalNumber}
 use Rattle.refusal.specs.declared.Refusal.the-variants as refusal
-use Rattle.clock_numbers.specs.Arithmetic.{_⊕_, _⊗_, whole, within, larger, held}
+use Rattle.clock_numbers.specs.Arithmetic.{_⊕_, _⊗_, wholeNumber, within, larger, held}
 use Rattle.clock_sample.specs.declared.Clock.{Clock}
 use Rattle.clock_sample.specs.Clock.{goodClock}
 use Rattle.clock_limit.specs.declared.Setting.{Setting}
@@ -20,7 +20,7 @@ goodSetting (Measured floor ceiling) = within 1 60_000 floor && within 1 60_000 
 
 -- smoothed + larger of 1 and 4 * deviation; 1000 before any sample
 unfoldable pub measured : Clock → Float
-measured clock = pick (clock .sampled) (clock .smoothed ⊕ larger (whole 1) (whole 4 ⊗ clock .deviation)) (whole 1000)
+measured clock = pick (clock .sampled) (clock .smoothed ⊕ larger (wholeNumber 1) (wholeNumber 4 ⊗ clock .deviation)) (wholeNumber 1000)
 
 -- fixed: the one limit; measured: held between floor and ceiling
 abbrev pub limitUnder : Setting → Clock → Float

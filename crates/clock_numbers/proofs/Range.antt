@@ -16,7 +16,7 @@ use lib.Ieee.Positive.{positive-of-value, values-of-le}
 use lib.Ieee.Scale.{round-same}
 use lib.Ieee.Back.{round-whole}
 use Rattle.laws.proofs.Tests.{T-first, T-second}
-use Rattle.clock_numbers.specs.Arithmetic.{_⊕_, _⊗_, _⊘_, whole, distance}
+use Rattle.clock_numbers.specs.Arithmetic.{_⊕_, _⊗_, _⊘_, wholeNumber, distance}
 
 -- x is a number from 0 to n; -0 is one
 pub data UpTo (n : ℕ) : Float → Type 0 where
@@ -32,32 +32,32 @@ abbrev value : ℕ → ℕ → Bool → Float
 value k q small = cond small (odd (suc (prec binary64)) false q k (low binary64)) (inf false)
 
 module _ (n : ℕ) (exact : Exact n) where
-  pub whole-value : HasValue (whole n) false n 1
-  unfolding whole ofInt
+  pub whole-value : HasValue (wholeNumber n) false n 1
+  unfolding wholeNumber ofInt
   whole-value = round-whole binary64 false n (leb→le n (2 ^ 53) (T-second (ltb 0 n) (leb n (2 ^ 53)) exact))
 
-  pub below-whole : (m : ℕ) (e : ℤ) → T (le (fin false m e) (whole n)) → m * up e ≤ n * down e
+  pub below-whole : (m : ℕ) (e : ℤ) → T (le (fin false m e) (wholeNumber n)) → m * up e ≤ n * down e
   below-whole zero e t = le-trans (le-of-eq (zero-mul (up e))) zero-le
   below-whole (suc m) e t =
       le-trans (le-of-eq (sym (mul-one (suc m * up e))))
-      (values-of-le (fin false (suc m) e) (whole n) (suc m * up e) (down e) n 1 (lt→ltb 0 (suc m) (zero-lt-suc m))
-      (positive-of-value (whole n) n 1 whole-value (ltb→lt 0 n (T-first (ltb 0 n) (leb n (2 ^ 53)) exact)))
+      (values-of-le (fin false (suc m) e) (wholeNumber n) (suc m * up e) (down e) n 1 (lt→ltb 0 (suc m) (zero-lt-suc m))
+      (positive-of-value (wholeNumber n) n 1 whole-value (ltb→lt 0 n (T-first (ltb 0 n) (leb n (2 ^ 53)) exact)))
       (refl, refl) whole-value t)
 
   -- no infinity is at most n
-  infinity : T (le (inf false) (whole n)) → ⊥
-  infinity t = go (whole n) whole-value t
+  infinity : T (le (inf false) (wholeNumber n)) → ⊥
+  infinity t = go (wholeNumber n) whole-value t
     where
       go : (y : Float) → HasValue y false n 1 → T (le (inf false) y) → ⊥
       go nan v t = v
       go (inf s) v t = v
       go (fin s m e) v t = unfold le lt in t
 
-  units-up-to : (q k : ℕ) → T (le (units binary64 false q k) (whole n)) → UpTo n (units binary64 false q k)
+  units-up-to : (q k : ℕ) → T (le (units binary64 false q k) (wholeNumber n)) → UpTo n (units binary64 false q k)
   unfolding units odd
   units-up-to q k = go q (ltb (q * 2 ^ k) (2 ^ (low binary64 + suc (emax binary64))))
     where
-      go : (q : ℕ) (small : Bool) → T (le (value k q small) (whole n)) → UpTo n (value k q small)
+      go : (q : ℕ) (small : Bool) → T (le (value k q small) (wholeNumber n)) → UpTo n (value k q small)
       go zero true t = up-to (λ u. absurd u) (below-whole 0 (pos 0) t)
       go (suc q) true t = up-to (λ u. absurd u) (below-whole _ _ t)
       go zero false t = absurd (infinity t)
@@ -65,7 +65,7 @@ module _ (n : ℕ) (exact : Exact n) where
 
   -- ±a / c, where it is not below 0
   pub round-up-to : (s : Bool) (a c : ℕ) → 0 < c → (T s → a ≡ 0) → a ≤ n * c → UpTo n (round binary64 s a c)
-  unfolding whole ofInt
+  unfolding wholeNumber ofInt
   round-up-to true a c C z h =
       subst (UpTo n) (sym (round-same binary64 true a c 0 1 C (lit< tt) (mul-one a ∙ z tt ∙ sym (zero-mul c))))
       (unfold round in up-to (λ u. refl) zero-le)
@@ -74,15 +74,15 @@ module _ (n : ℕ) (exact : Exact n) where
       let same = round-is binary64 false a c in
       let units-of = a * 2 ^ low binary64 in
       subst (UpTo n) (sym same)
-      (units-up-to (kept 53 units-of c) (drop 53 units-of c) (subst (λ (x : Float). T (le x (whole n))) same t))
+      (units-up-to (kept 53 units-of c) (drop 53 units-of c) (subst (λ (x : Float). T (le x (wholeNumber n))) same t))
 
 -- ---- the operations
 either-up-to : (n : ℕ) (w : Bool) {x y : Float} → (T w → UpTo n x) → (T (not w) → UpTo n y) → UpTo n (cond w x y)
 either-up-to n true f g = f tt
 either-up-to n false f g = g tt
 
-pub whole-up-to : (n : ℕ) → Exact n → (r : ℕ) → r ≤ n → UpTo n (whole r)
-unfolding whole ofInt
+pub whole-up-to : (n : ℕ) → Exact n → (r : ℕ) → r ≤ n → UpTo n (wholeNumber r)
+unfolding wholeNumber ofInt
 whole-up-to n exact r h = round-up-to n exact false r 1 (lit< tt) (λ u. absurd u) (le-trans h (le-of-eq (sym (mul-one n))))
 
 -- p * 2 ^ d times a number up to n, which is at most k
@@ -100,8 +100,8 @@ product-up-to n k exact p d part (up-to {s} {m} {e} f h) =
     zero : m ≡ 0 → p * up d * (m * up e) ≡ 0
     zero z = ap (λ (y : ℕ). p * up d * (y * up e)) z ∙ ap (λ (y : ℕ). p * up d * y) (zero-mul (up e)) ∙ mul-zero (p * up d)
 
-pub half-up-to : (n : ℕ) → Exact n → {x : Float} → UpTo n x → UpTo n (x ⊘ whole 2)
-unfolding whole div ofInt
+pub half-up-to : (n : ℕ) → Exact n → {x : Float} → UpTo n x → UpTo n (x ⊘ wholeNumber 2)
+unfolding wholeNumber div ofInt
 half-up-to n exact (up-to {s} {m} {e} f h) =
     round-up-to n exact (unlike s false) (m * up e * 1) (2 * down e) (mul-pos (lit< tt) (down-pos e))
     (λ t. mul-one (m * up e) ∙ ap (λ (y : ℕ). y * up e) (f (sign s t)) ∙ zero-mul (up e)) (twice (m * up e) (down e) h)

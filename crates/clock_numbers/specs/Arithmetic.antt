@@ -20,25 +20,25 @@ x ⊗ y = mul binary64 x y
 abbrev pub _⊘_ : Float → Float → Float
 x ⊘ y = div binary64 x y
 
-unfoldable pub whole : ℕ → Float
-whole n = ofInt binary64 (pos n)
+unfoldable pub wholeNumber : ℕ → Float
+wholeNumber n = ofInt binary64 (pos n)
 
 -- 0.75, 0.25, 0.875 and 0.125, which binary64 holds exactly
 unfoldable pub 0·75 : Float
-0·75 = whole 3 ⊘ whole 4
+0·75 = wholeNumber 3 ⊘ wholeNumber 4
 
 unfoldable pub 0·25 : Float
-0·25 = whole 1 ⊘ whole 4
+0·25 = wholeNumber 1 ⊘ wholeNumber 4
 
 unfoldable pub 0·875 : Float
-0·875 = whole 7 ⊘ whole 8
+0·875 = wholeNumber 7 ⊘ wholeNumber 8
 
 unfoldable pub 0·125 : Float
-0·125 = whole 1 ⊘ whole 8
+0·125 = wholeNumber 1 ⊘ wholeNumber 8
 
 -- x is a number from low to high: NaN is none, and -0 counts as 0
 abbrev pub within : ℕ → ℕ → Float → Bool
-within low high x = le (whole low) x && le x (whole high)
+within low high x = le (wholeNumber low) x && le x (wholeNumber high)
 
 abbrev pub larger : Float → Float → Float
 larger x y = cond (lt x y) y x

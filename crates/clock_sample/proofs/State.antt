@@ -11,7 +11,7 @@ use borrow.Author.Tests.{leb-true}
 use Rattle.laws.specs.Pick.{pick}
 use Rattle.laws.proofs.Pick.{yes, no}
 use Rattle.laws.proofs.Tests.{and-both, T-first, T-second, T-true}
-use Rattle.clock_numbers.specs.Arithmetic.{whole, 0·75, 0·25, 0·875, 0·125, within}
+use Rattle.clock_numbers.specs.Arithmetic.{wholeNumber, 0·75, 0·25, 0·875, 0·125, within}
 use Rattle.clock_numbers.proofs.Range.{UpTo, whole-up-to, product-up-to, half-up-to, sum-up-to, distance-up-to}
 use Rattle.clock_numbers.proofs.Passing.{within→up-to, up-to→within}
 use Rattle.clock_sample.specs.declared.Clock.{Clock}
@@ -40,7 +40,7 @@ first-in-range r = (r, half-up-to 60_000 tt r)
 
 -- 7/8 and 1/8 of 60,000 are 52,500 and 7,500; 3/4 and 1/4 are 45,000 and 15,000
 later-in-range : (clock : Clock) {R : Float} → InRange clock → UpTo 60_000 R → InRange (later clock R)
-unfolding InRange later 0·75 0·25 0·875 0·125 whole ofInt div
+unfolding InRange later 0·75 0·25 0·875 0·125 wholeNumber ofInt div
 later-in-range clock i r = (
   sum-up-to 52_500 7_500 tt
       (product-up-to 60_000 52_500 tt 7 (negsuc 2) (λ X Y h. omega arith) (i .0))
@@ -50,14 +50,14 @@ later-in-range clock i r = (
       (product-up-to 60_000 15_000 tt 1 (negsuc 1) (λ X Y h. omega arith) (distance-up-to 60_000 tt (i .0) r)),
 )
 
-pub updated-good : (clock : Clock) (R : ℕ) → goodClock clock ≡ true → goodSample R ≡ true → goodClock (updated clock (whole R)) ≡ true
+pub updated-good : (clock : Clock) (R : ℕ) → goodClock clock ≡ true → goodSample R ≡ true → goodClock (updated clock (wholeNumber R)) ≡ true
 unfolding updated pick
 updated-good clock R c s = in-range→good _ (go (clock .sampled))
   where
-    sample : UpTo 60_000 (whole R)
+    sample : UpTo 60_000 (wholeNumber R)
     sample = whole-up-to 60_000 tt R (leb-true R 60_000 s)
 
-    go : (b : Bool) → InRange (pick b (later clock (whole R)) (first (whole R)))
+    go : (b : Bool) → InRange (pick b (later clock (wholeNumber R)) (first (wholeNumber R)))
     go true = later-in-range clock (good→in-range clock c) sample
     go false = first-in-range sample
 
@@ -71,4 +71,4 @@ sample-good clock R c = go (goodSample R) refl
     go false s = rw (c, s, no) c
 
 pub new-good : goodClock newClock ≡ true
-new-good = unfold goodClock newClock whole ofInt le lt eq in refl
+new-good = unfold goodClock newClock wholeNumber ofInt le lt eq in refl

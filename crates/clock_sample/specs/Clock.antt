@@ -7,19 +7,19 @@ use Rattle.laws.specs.Pick.{pick}
 use Rattle.laws.specs.Result.{Result, ok, refused}
 use Rattle.refusal.specs.Number.{refusalNumber}
 use Rattle.refusal.specs.declared.Refusal.the-variants as refusal
-use Rattle.clock_numbers.specs.Arithmetic.{_⊕_, _⊗_, _⊘_, whole, 0·75, 0·25, 0·875, 0·125, within, distance}
+use Rattle.clock_numbers.specs.Arithmetic.{_⊕_, _⊗_, _⊘_, wholeNumber, 0·75, 0·25, 0·875, 0·125, within, distance}
 use Rattle.clock_sample.specs.declared.Clock.{Clock}
-use Rattle.clock_sample.specs.declared.Outcome.{Outcome}
-use Rattle.clock_sample.specs.declared.Outcome.the-variants.{Taken, BadValue}
+use Rattle.clock_sample.specs.declared.SampleAnswer.{SampleAnswer}
+use Rattle.clock_sample.specs.declared.SampleAnswer.the-variants.{Taken, BadValue}
 use Rattle.clock_sample.specs.declared.Update.{Update}
 
 -- no sample has come
 unfoldable pub newClock : Clock
-newClock = record { sampled = false; smoothed = whole 0; deviation = whole 0 }
+newClock = record { sampled = false; smoothed = wholeNumber 0; deviation = wholeNumber 0 }
 
 -- first: smoothed = R, deviation = R / 2
 unfoldable pub first : Float → Clock
-first R = record { sampled = true; smoothed = R; deviation = R ⊘ whole 2 }
+first R = record { sampled = true; smoothed = R; deviation = R ⊘ wholeNumber 2 }
 
 -- later: deviation = 0.75 * deviation + 0.25 * distance(smoothed, R), then smoothed = 0.875 * smoothed + 0.125 * R
 unfoldable pub later : Clock → Float → Clock
@@ -41,10 +41,10 @@ goodSample R = leb R 60_000
 
 -- what the sampler answers, and the clock afterwards: a refusal leaves the clock as it was
 unfoldable pub sampleRule : Clock → ℕ → Result Unit × Clock
-sampleRule clock R = pick (goodClock clock && goodSample R) (ok tt, updated clock (whole R)) (refused 12, clock)
+sampleRule clock R = pick (goodClock clock && goodSample R) (ok tt, updated clock (wholeNumber R)) (refused 12, clock)
 
 -- each case of the answer in the paper's terms
-abbrev pub outcomeResult : Outcome → Result Unit
+abbrev pub outcomeResult : SampleAnswer → Result Unit
 outcomeResult Taken = ok tt
 outcomeResult BadValue = refused (refusalNumber refusal.BadValue)
 

@@ -17,7 +17,7 @@ pub struct Clock {
 }
 
 // What is answered to a sample.
-pub enum Outcome {
+pub enum SampleAnswer {
     Taken,
     // The clock's state or the sample is out of its range.
     BadValue,
@@ -25,7 +25,7 @@ pub enum Outcome {
 
 // The answer to a sample, and the clock after it: a refusal leaves the clock as it was.
 pub struct Update {
-    pub outcome: Outcome,
+    pub outcome: SampleAnswer,
     pub clock: Clock,
 }
 
@@ -90,12 +90,12 @@ impl Clock {
         let in_range = sample <= 60000;
         if good & in_range {
             Update {
-                outcome: Outcome::Taken,
+                outcome: SampleAnswer::Taken,
                 clock: self.updated(sample as f64),
             }
         } else {
             Update {
-                outcome: Outcome::BadValue,
+                outcome: SampleAnswer::BadValue,
                 clock: self,
             }
         }

@@ -1,12 +1,12 @@
 // The sampler: a ping clock is lent to it and changed in place.
 use crate::Clock;
-use crate::Outcome;
+use crate::SampleAnswer;
 use crate::Update;
 ghost use mathlib.Core.Path.{_≡_};
 ghost use Rattle.clock_sample.specs.Clock.{sampleRule, outcomeResult, updateResult};
 
 // The sampler: the clock is lent, and changed in place.
-pub fn take_sample(clock: &mut Clock, sample: u32) -> Outcome
+pub fn take_sample(clock: &mut Clock, sample: u32) -> SampleAnswer
     ensures { λ r. ⌜ (outcomeResult r, now (clock .exit)) ≡ sampleRule (now (clock .entry)) sample ⌝ }
 {
     let update = clock.update(sample);

@@ -8,14 +8,14 @@ use Rattle.state.specs.declared.Ping.{Ping}
 use Rattle.state.specs.declared.Connection.{Connection}
 use Rattle.state.specs.New.{blank}
 use Rattle.protocol.specs.Connection.{Cause, ended}
-use Rattle.protocol.specs.Judge.{Report, Out, with-stage, with-ping, ends-by, commit}
+use Rattle.protocol.specs.Judge.{Report, Output, setting-stage, setting-ping, ends-by, commit}
 use Rattle.state.specs.With.{withSessions, withStage, withPing}
 
-module _ (c : Connection) (r : Report) (outs : List Out) where
-  pub sets-stage : (s : Stage) → withStage s c ≡ commit c (with-stage c s r outs)
+module _ (c : Connection) (r : Report) (outs : List Output) where
+  pub sets-stage : (s : Stage) → withStage s c ≡ commit c (setting-stage c s r outs)
   sets-stage s = ap (λ (l : List Session). withStage s (withSessions l c)) (sym (set-getD (c .sessions) 0 blank))
 
-  pub sets-ping : (p : Ping) → withPing p c ≡ commit c (with-ping c p r outs)
+  pub sets-ping : (p : Ping) → withPing p c ≡ commit c (setting-ping c p r outs)
   sets-ping p = ap (λ (l : List Session). withPing p (withSessions l c)) (sym (set-getD (c .sessions) 0 blank))
 
   pub sets-end : (cause : Cause) → ended cause c ≡ commit c (ends-by c cause r outs)

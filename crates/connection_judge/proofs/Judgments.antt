@@ -16,7 +16,7 @@ use Rattle.protocol.specs.Message.{SessionMessage, Scope, whole, of-session, sc
 use Rattle.state.specs.New.{blank}
 use Rattle.protocol.specs.Receipt as rule
 use Rattle.protocol.specs.Connection.{shutdown-received, error-received, at, roleOf, ownStart, farStart, ended}
-use Rattle.protocol.specs.Judge.{Report, message, Out, sent, Effect, accept, unchanged, with-ping, with-session, breach, commit, matches, judgeScope, judge}
+use Rattle.protocol.specs.Judge.{Report, message, Output, sent, Effect, accept, unchanged, setting-ping, setting-session, breach, commit, matches, judgeScope, judge}
 use Rattle.session.specs.declared.Taken.{Taken}
 use Rattle.session.specs.Step.{sentAs}
 use Rattle.session_receive.specs.declared.Receipt.{Receipt}
@@ -29,11 +29,11 @@ use Rattle.connection_judge.specs.Verdict.{Verdict, verdict}
 use Rattle.connection_judge.specs.Stepped.{judgedBy}
 
 -- a message taken, with the connection after it
-abbrev pub took : Connection → Message → Bool → List Out → Verdict
+abbrev pub took : Connection → Message → Bool → List Output → Verdict
 took next m late outs = record { connection = next; answer = ok (message m late); outs = outs }
 
 module _ (c : Connection) where
-  sets-nothing : (r : Report) (outs : List Out) → c ≡ commit c (unchanged c r outs)
+  sets-nothing : (r : Report) (outs : List Output) → c ≡ commit c (unchanged c r outs)
   sets-nothing r outs =
       ap (λ (l : List Session). withSessions l c)
       (sym (set-getD (c .sessions) 0 blank))
@@ -71,7 +71,7 @@ module _ (c : Connection) where
 
     -- a PingAck, by whether it matches
     answered : Effect
-    answered = with-ping c ping.None (message (msg.PingAck k) false) []
+    answered = setting-ping c ping.None (message (msg.PingAck k) false) []
 
     by-match : {b : Bool} → matches (c .ping) k ≡ b
         → verdict c (settle (breach c) accept (check (not b) 28 (take answered))) ≡ verdict c (judgeScope c (msg.PingAck k) whole)
@@ -95,7 +95,7 @@ module _ (c : Connection) where
 
   module _ (m : Message) (n : ℕ) where
     by-receipt : (p : Plan rule.Taken)
-        → judgedBy c m n (toReceipt p) ≡ settle (breach c) (λ t. accept (with-session c n (c .last) (message m (t .late)) t)) p
+        → judgedBy c m n (toReceipt p) ≡ settle (breach c) (λ t. accept (setting-session c n (c .last) (message m (t .late)) t)) p
     unfolding settle
     by-receipt (stop k) = refl
     by-receipt (check true k p) = refl
@@ -111,7 +111,7 @@ module _ (c : Connection) where
           h ∙ ap (λ (a : Result rule.Taken). verdict c (judgedBy c m n a)) (rw (e, f, g, i) at q)
           ∙ ap (verdict c) (by-receipt (rule.receipt (roleOf (c .stage)) (ownStart c) (farStart c) (at c n) s))
 
-      pub step-taken : {r : Receipt} {t : Taken} {next : Connection} {outs : List Out} → r ≡ receipt.Taken t
+      pub step-taken : {r : Receipt} {t : Taken} {next : Connection} {outs : List Output} → r ≡ receipt.Taken t
           → next ≡ withSession n (t .session) c → outs ≡ map (λ k. sent (numbered n k)) (sentAs (t .sent))
           → v ≡ took next m (t .late) outs
           → v ≡ verdict c (judgedBy c m n (receiptAs r))

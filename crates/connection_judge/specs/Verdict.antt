@@ -4,7 +4,7 @@ use Rattle.laws.specs.Result.{Result, ok, refused, violation}
 use Rattle.wire.specs.declared.Message.the-variants as msg
 use Rattle.state.specs.declared.Connection.{Connection}
 use Rattle.protocol.specs.Connection.{ended}
-use Rattle.protocol.specs.Judge.{Report, Out, own-header, sent, Decision, refuse, violate, accept, commit}
+use Rattle.protocol.specs.Judge.{Report, Output, own-header, sent, Decision, refuse, violate, accept, commit}
 use Rattle.protocol.specs.Result.{answerAs}
 use Rattle.connection_output.specs.Outgoing.{outsAs}
 use Rattle.connection_judge.specs.declared.Reply.{Reply}
@@ -14,7 +14,7 @@ use Rattle.connection_judge.specs.declared.Judged.{Judged}
 pub record Verdict : Type 0 where
   pub connection : Connection
   pub answer : Result Report
-  pub outs : List Out
+  pub outs : List Output
 
 -- what a decision comes to
 abbrev pub verdict : Connection → Decision → Verdict
@@ -22,7 +22,7 @@ verdict c (refuse n) = record { connection = c; answer = refused n; outs = [] }
 verdict c (violate b) = record { connection = ended (b .cause) c; answer = violation (b .code); outs = b .reply }
 verdict c (accept e) = record { connection = commit c e; answer = ok (e .report); outs = e .outs }
 
-abbrev pub repliesAs : Reply → List Out
+abbrev pub repliesAs : Reply → List Output
 repliesAs (reply.Only o) = outsAs o
 repliesAs (reply.HeaderError n) = own-header n ∷ sent (msg.Error 0) ∷ []
 

@@ -15,7 +15,7 @@ use Rattle.laws.proofs.Rooms.{fits, both}
 use Rattle.wire.specs.declared.Message.{Message}
 use Rattle.wire.specs.Message.{header, bodyLength, firstByte, secondByte, numberOf}
 use Rattle.wire.specs.Connection.{connectionHeader, writeConnectionHeader}
-use Rattle.protocol.specs.Judge.{Out, own-header, sent}
+use Rattle.protocol.specs.Judge.{Output, own-header, sent}
 use Rattle.protocol.specs.Result.{bytesOfAll}
 
 -- nothing is written
@@ -34,13 +34,13 @@ unfolding bytesOfAll
 one-with payload m = append-nil (header m ++ take (bodyLength m) payload)
 
 -- what is written of a message, from its parts
-pub message-with : (payload room : List ℕ) (m : Message) {outs : List Out} {n : ℕ} {body : List ℕ} {r : ℕ × List ℕ} → outs ≡ sent m ∷ []
+pub message-with : (payload room : List ℕ) (m : Message) {outs : List Output} {n : ℕ} {body : List ℕ} {r : ℕ × List ℕ} → outs ≡ sent m ∷ []
     → n ≡ bodyLength m → body ≡ take n payload → r ≡ atFront (header m ++ body) room → r ≡ atFront (bytesOfAll payload outs) room
 message-with payload room m o k b w =
     w
     ∙ ap (λ (s : List ℕ). atFront (header m ++ s) room) (b ∙ ap (λ (i : ℕ). take i payload) k)
     ∙ ap (λ (s : List ℕ). atFront s room) (sym (one-with payload m))
-    ∙ ap (λ (s : List Out). atFront (bytesOfAll payload s) room) (sym o)
+    ∙ ap (λ (s : List Output). atFront (bytesOfAll payload s) room) (sym o)
 
 -- what the writer of a connection header answers
 module _ {k : ℕ} {last : List ℕ} (size : ℕ) (bytes room : List ℕ) where

@@ -1,6 +1,5 @@
 // The loops: each goes round eight sessions that are open, with endless rations.
 use connection::with_session;
-use connection::with_stage;
 use connection_check::well_formed;
 use engine::Answer;
 use engine::Called;
@@ -23,14 +22,10 @@ struct Round {
 }
 
 fn session(waiting: u16) -> Session {
-    Session {
-        sides: Sides::Live(Side::Open, Side::Open),
-        outbound: Ration::Endless,
-        inbound: Ration::Endless,
-        waiting,
-        finish: false,
-        outcome: Outcome::Running,
-    }
+    let x = Session::BLANK.with_sides(Sides::Live(Side::Open, Side::Open));
+    let sent = x.with_rations(Ration::Endless, Ration::Endless);
+    let runs = sent.with_outcome(Outcome::Running);
+    runs.with_waiting(waiting, false)
 }
 
 // A client with the sessions 0 to 7 open, and so many bytes waiting for each.
@@ -40,7 +35,8 @@ fn begun(waiting: u16) -> Round {
         header: 0,
     };
     let x = session(waiting);
-    let mut c = with_stage(Connection::new(setup), Stage::Up(Role::Client, 0));
+    let fresh = Connection::new(setup);
+    let mut c = fresh.with_stage(Stage::Up(Role::Client, 0));
     c = with_session(c, 0, x);
     c = with_session(c, 1, x);
     c = with_session(c, 2, x);

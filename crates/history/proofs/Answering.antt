@@ -22,7 +22,7 @@ use Rattle.protocol.specs.Plan.{Plan, stop, check, take, settle, andThen}
 use Rattle.protocol.specs.Receipt.{Taken}
 use Rattle.protocol.specs.Ask.{openAsk, putAsk, finishAsk, grantAsk, abortAsk, closeAsk}
 use Rattle.protocol.specs.Connection.{at, roleOf, exchanged, farStart, wellFormed}
-use Rattle.protocol.specs.Judge.{Report, done, Effect, Decision, refuse, accept, with-session}
+use Rattle.protocol.specs.Judge.{Report, done, Effect, Decision, refuse, accept, setting-session}
 use Rattle.protocol.specs.Call.{isFresh, isOutstanding, nextReady, serving, unstarted, reading, receiveGate, turnRule, receiveRule, startRule, openRule, putRule, finishRule, grantRule, abortRule, closeRule, pingRule, shutdownRule, lostRule}
 use Rattle.protocol.specs.Observed.{greeted}
 use Rattle.protocol.proofs.Plans.{passes, Exactly, exact-takes, exact-stops, takes-all}
@@ -78,13 +78,13 @@ module _ (s : State) (k : Call) where
       then-checks (not (exchanged (s .connection .stage))) 1 p q (λ e. f (not-false (exchanged (s .connection .stage)) e))
       ∙ sym (ap (λ (b : Bool). refusing (not b) 1 q) (greeted-is (s .connection .stage)))
 
-  asks : (n : ℕ) (t : Bool) (w : ℕ) (p : Plan Taken) → Exactly t w p → answers (andThen (with-session (s .connection) n (s .connection .last) done) p) ≡ takenIf t w
+  asks : (n : ℕ) (t : Bool) (w : ℕ) (p : Plan Taken) → Exactly t w p → answers (andThen (setting-session (s .connection) n (s .connection .last) done) p) ≡ takenIf t w
   asks n t w p h = ap (λ (d : Decision). outBy s k d .answer) (settle-then f p refuse accept) ∙ go t refl
     where
       f : Taken → Effect
-      f = with-session (s .connection) n (s .connection .last) done
+      f = setting-session (s .connection) n (s .connection .last) done
 
-      go : (b : Bool) → t ≡ b → outBy s k (settle refuse (λ a. accept (with-session (s .connection) n (s .connection .last) done a)) p) .answer ≡ takenIf t w
+      go : (b : Bool) → t ≡ b → outBy s k (settle refuse (λ a. accept (setting-session (s .connection) n (s .connection .last) done a)) p) .answer ≡ takenIf t w
       go true e =
           let z = exact-takes refuse (λ a. accept (f a)) (λ a. Unit {0}) t w p h (takes-all (λ a. tt) p) e in
           ap (λ (d : Decision). outBy s k d .answer) (z .1) ∙ sym (ap (λ (b : Bool). takenIf b w) e)

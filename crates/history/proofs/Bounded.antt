@@ -19,7 +19,7 @@ use Rattle.protocol.specs.Message.{numbered}
 use Rattle.protocol.specs.Receipt.{Taken}
 use Rattle.protocol.specs.Ask as ask
 use Rattle.protocol.specs.Connection.{at, farStart}
-use Rattle.protocol.specs.Judge.{Report, served, Out, Decision, refuse, violate, accept, with-session}
+use Rattle.protocol.specs.Judge.{Report, served, Output, Decision, refuse, violate, accept, setting-session}
 use Rattle.protocol.specs.Call.{nextReady}
 use Rattle.protocol.specs.Result.{bytesOfAll}
 use Rattle.protocol.specs.Observed.{greeted, Sending, isReady, dueData}
@@ -42,7 +42,7 @@ module _ (s : State) (k : Call) where
   quiet-by : (d : Decision) → GoodBy s k d → isTurn k ≡ false → dataWritten (setupOf (s .connection)) (outBy s k d) ≡ []
   quiet-by (refuse n) g h = nothing-data (setupOf (s .connection) .role)
   quiet-by (violate b) g h =
-      ap (λ (os : List Out). dataNumber (readMessage (setupOf (s .connection) .role) (bytesOfAll (payloadOf (s .queue) k (violate b)) os))) (g .0)
+      ap (λ (os : List Output). dataNumber (readMessage (setupOf (s .connection) .role) (bytesOfAll (payloadOf (s .queue) k (violate b)) os))) (g .0)
       ∙ error-data (setupOf (s .connection) .role) (payloadOf (s .queue) k (violate b)) (s .connection .stage) (s .connection .own)
   quiet-by (accept e) g h = g .by-turn ∙ ap (λ (b : Bool). one b (e .number)) h
 
@@ -61,13 +61,13 @@ module _ (setup : Setup) where
 
   -- a turn that is taken writes that of the number served
   turn-out : (s : State) (room : List ℕ) → Ok setup s → (n : ℕ) (t : Taken)
-      → decide (s .connection) (s .queue) (turn room) ≡ accept (with-session (s .connection) n n (served n) t) → dataWritten setup (out s (turn room)) ≡ n ∷ []
+      → decide (s .connection) (s .queue) (turn room) ≡ accept (setting-session (s .connection) n n (served n) t) → dataWritten setup (out s (turn room)) ≡ n ∷ []
   unfolding out
   turn-out s room o n t e =
-      let g : GoodBy s (turn room) (accept (with-session (s .connection) n n (served n) t)) =
+      let g : GoodBy s (turn room) (accept (setting-session (s .connection) n n (served n) t)) =
       subst (λ (d : Decision). GoodBy s (turn room) d) e (decide-good s (own-ok setup s o) (turn room)) in
       ap (λ (d : Decision). dataWritten setup (outBy s (turn room) d)) e
-      ∙ ap (λ (z : Setup). dataWritten z (outBy s (turn room) (accept (with-session (s .connection) n n (served n) t)))) (sym (same-setup setup s o)) ∙ g .by-turn
+      ∙ ap (λ (z : Setup). dataWritten z (outBy s (turn room) (accept (setting-session (s .connection) n n (served n) t)))) (sym (same-setup setup s o)) ∙ g .by-turn
 
   -- the queue keeps its length
   pub run-long : (s : State) (ks : List Call) → Ok setup s → length (run next out s ks .queue) ≡ length (s .queue)
@@ -83,7 +83,7 @@ module _ (setup : Setup) (hh : setup .header < 65_536) (queue : List ℕ) (ks : 
   o = run-made setup hh queue ks
 
   -- the state's ready numbers are the log's
-  told : (n : ℕ) → n < 128 → ask.ready (at (log.run setup queue ks .connection) n) ≡ ready setup n (log.log setup queue ks)
+  told : (n : ℕ) → n < 128 → ask.readySession (at (log.run setup queue ks .connection) n) ≡ ready setup n (log.log setup queue ks)
   told n h =
       let st = log.run setup queue ks in
       ready-look (farStart (st .connection)) (at (st .connection) n) (slot n (st .queue)) (o .fits n h) ∙ sym (ready-is setup hh queue ks n h)
@@ -93,11 +93,11 @@ module _ (setup : Setup) (hh : setup .header < 65_536) (queue : List ℕ) (ks : 
 
   first : nextReady (log.run setup queue ks .connection) ≡ nearest (λ n. ready setup n (log.log setup queue ks)) (lastServed setup (log.log setup queue ks))
   first =
-      nearest-same (λ n. ask.ready (at (log.run setup queue ks .connection) n)) (λ n. ready setup n (log.log setup queue ks)) told (log.run setup queue ks .connection .last)
+      nearest-same (λ n. ask.readySession (at (log.run setup queue ks .connection) n)) (λ n. ready setup n (log.log setup queue ks)) told (log.run setup queue ks .connection .last)
       ∙ ap (nearest (λ n. ready setup n (log.log setup queue ks))) (sym last-told)
 
   inside : nextReady (log.run setup queue ks .connection) < 128
-  inside = nearest-lt (λ n. ask.ready (at (log.run setup queue ks .connection) n)) (log.run setup queue ks .connection .last) (o .last)
+  inside = nearest-lt (λ n. ask.readySession (at (log.run setup queue ks .connection) n)) (log.run setup queue ks .connection .last) (o .last)
 
   account : (n : ℕ) → n < 128 → observed setup n (log.log setup queue ks) .seen .sends ≡ holds (log.run setup queue ks) n .sends
   account n h = ap (λ (a : Account). a .seen .sends) (observed-is setup hh queue ks n h)
@@ -118,10 +118,10 @@ module _ (setup : Setup) (hh : setup .header < 65_536) (queue : List ℕ) (ks : 
   unfolding out
   written d e = ap (λ (z : Decision). outBy (log.run setup queue ks) (turn room) z .wrote) e
 
-  serves-first : ask.ready (at (log.run setup queue ks .connection) (nextReady (log.run setup queue ks .connection))) ≡ true → (t : Taken)
+  serves-first : ask.readySession (at (log.run setup queue ks .connection) (nextReady (log.run setup queue ks .connection))) ≡ true → (t : Taken)
       → t .sent ≡ dueData (holds (log.run setup queue ks) (nextReady (log.run setup queue ks .connection)) .sends) ∷ []
       → decide (log.run setup queue ks .connection) (log.run setup queue ks .queue) (turn room)
-      ≡ accept (with-session (log.run setup queue ks .connection) (nextReady (log.run setup queue ks .connection)) (nextReady (log.run setup queue ks .connection)) (served (nextReady (log.run setup queue ks .connection))) t)
+      ≡ accept (setting-session (log.run setup queue ks .connection) (nextReady (log.run setup queue ks .connection)) (nextReady (log.run setup queue ks .connection)) (served (nextReady (log.run setup queue ks .connection))) t)
       → Serves setup (log.log setup queue ks) (out (log.run setup queue ks) (turn room)) (nextReady (log.run setup queue ks .connection))
   serves-first r t q e =
       let st = log.run setup queue ks in
@@ -133,7 +133,7 @@ module _ (setup : Setup) (hh : setup .header < 65_536) (queue : List ℕ) (ks : 
         first-ready = first;
         is-ready = sym (told n inside) ∙ r;
         message =
-            written (accept (with-session (st .connection) n n (served n) t)) e ∙ turn-bytes st n n t v q
+            written (accept (setting-session (st .connection) n n (served n) t)) e ∙ turn-bytes st n n t v q
             ∙ ap (λ (b : List ℕ). wire.header (numbered n (dueData v)) ++ b)
             (due-bytes n (at (st .connection) n .waiting) (slot n (st .queue)) v rv (waiting-look (farStart (st .connection)) (at (st .connection) n) (slot n (st .queue)) rv) (o .fits n inside))
             ∙ ap (λ (w : Sending). wire.header (numbered n (dueData w)) ++ take (wire.bodyLength (numbered n (dueData w))) (waitingBytes w)) (sym (account n inside));
@@ -163,13 +163,13 @@ module _ (setup : Setup) (hh : setup .header < 65_536) (queue : List ℕ) (ks : 
               roomy = cl .roomy;
               whole-queue = sym (run-long setup (made setup queue) ks (made-ok setup hh queue)) ∙ cl .whole-queue;
             };
-        none = λ n hn. sym (told n hn) ∙ not-ready n hn (ask.ready (at (st .connection) n)) refl;
+        none = λ n hn. sym (told n hn) ∙ not-ready n hn (ask.readySession (at (st .connection) n)) refl;
       }
     where
-      not-ready : (n : ℕ) → n < 128 → (b : Bool) → ask.ready (at (log.run setup queue ks .connection) n) ≡ b → ask.ready (at (log.run setup queue ks .connection) n) ≡ false
+      not-ready : (n : ℕ) → n < 128 → (b : Bool) → ask.readySession (at (log.run setup queue ks .connection) n) ≡ b → ask.readySession (at (log.run setup queue ks .connection) n) ≡ false
       not-ready n hn false e = e
       not-ready n hn true e =
-          absurd (true-false (nearest-found (λ i. ask.ready (at (log.run setup queue ks .connection) i)) (log.run setup queue ks .connection .last) n (o .last) hn e .passes) h)
+          absurd (true-false (nearest-found (λ i. ask.readySession (at (log.run setup queue ks .connection) i)) (log.run setup queue ks .connection .last) n (o .last) hn e .passes) h)
 
   -- and where nothing is ready, a turn is refused with 9
   clear : MayTurn setup (length queue) (log.log setup queue ks) (length room) → Clear (log.run setup queue ks) (length room)
@@ -192,7 +192,7 @@ module _ (setup : Setup) (hh : setup .header < 65_536) (queue : List ℕ) (ks : 
   served-some (early j h1 h2 e) z n hn r = absurd (h2 (clear z))
   served-some (none cl h e) z n hn r =
       let c = log.run setup queue ks .connection in
-      absurd (true-false (nearest-found (λ i. ask.ready (at c i)) (c .last) n (o .last) hn (told n hn ∙ r) .passes) h)
+      absurd (true-false (nearest-found (λ i. ask.readySession (at c i)) (c .last) n (o .last) hn (told n hn ∙ r) .passes) h)
   served-some (taken cl h t q e) z n hn r = (nextReady (log.run setup queue ks .connection), answers _ e)
 
   turns-calls : Turns setup (length queue) (log.log setup queue ks) (out (log.run setup queue ks) (turn room)) (length room)

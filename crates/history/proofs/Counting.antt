@@ -22,7 +22,7 @@ use Rattle.state.specs.declared.Setup.{Setup}
 use Rattle.protocol.specs.Queue.{slot}
 use Rattle.protocol.specs.Message.{data-of, scope}
 use Rattle.protocol.specs.Connection.{at, roleOf, farStart}
-use Rattle.protocol.specs.Judge.{message, Out, Effect, Decision, refuse, violate, accept}
+use Rattle.protocol.specs.Judge.{message, Output, Effect, Decision, refuse, violate, accept}
 use Rattle.protocol.specs.Result.{bytesOfAll}
 use Rattle.protocol.specs.Observed.{Event, received, wrote, Sending, silent, sending, Ends, unused, ends, Seen, established, unfinished, mayArrive, lateFor}
 use Rattle.protocol.specs.Totals.{blankLedger, Balanced, Covers, Totals, addUp}
@@ -144,7 +144,7 @@ module _ (s : State) (k : Call) (n : ℕ) where
       let r = roleOf (s .connection .stage) in
       let p = payloadOf (s .queue) k (violate x) in
       none-some
-      (sym (ap (λ (os : List Out). dataNumber (readMessage r (bytesOfAll p os))) (g .0) ∙ error-data r p (s .connection .stage) (s .connection .own)) ∙ ap dataNumber q)
+      (sym (ap (λ (os : List Output). dataNumber (readMessage r (bytesOfAll p os))) (g .0) ∙ error-data r p (s .connection .stage) (s .connection .own)) ∙ ap dataNumber q)
   writes-by (accept e) g b close eof ack size q = writes-data e g b close eof ack size q
 
   takes-by : (d : Decision) → GoodBy s k d → TakesData (setupOf (s .connection)) d

@@ -22,7 +22,7 @@ use Rattle.protocol.specs.Message.{Scope, whole, of-session, scope}
 use Rattle.protocol.specs.Receipt.{Taken, receipt}
 use Rattle.protocol.specs.Ask.{openAsk, putAsk, finishAsk, grantAsk, abortAsk, closeAsk, turnAsk}
 use Rattle.protocol.specs.Connection.{Cause, at, roleOf, ownStart, farStart, ended}
-use Rattle.protocol.specs.Judge.{Report, done, served, message, Ending, goes-on, ends, Effect, Decision, refuse, violate, accept, with-session, continued, breach, judgeWhole, judgeScope, judge}
+use Rattle.protocol.specs.Judge.{Report, done, served, message, Ending, goes-on, ends, Effect, Decision, refuse, violate, accept, setting-session, continued, breach, judgeWhole, judgeScope, judge}
 use Rattle.protocol.specs.Call.{nextReady, otherEnd, headerTaken, messageTaken, reading, receiveGate, startRule, openRule, putRule, finishRule, turnRule, grantRule, abortRule, closeRule, pingRule, shutdownRule, lostRule, receiveRule}
 use Rattle.protocol.proofs.Plans.{settled, stops-all, Takes, takes-then, takes-all}
 use Rattle.history.specs.Log.{Call, start, open-session, put, finish, turn, grant, abort, close, shutdown, lost, receive, State, decide, queueAfter, nextBy, next}
@@ -51,8 +51,8 @@ module _ (c : Connection) where
   local : (p : Plan Effect) → Takes (λ e. EndsAlone c (accept e)) p → EndsAlone c (settle refuse accept p)
   local p h = settled (EndsAlone c) refuse accept p (stops-all (λ n. tt) p) h
 
-  session : (n last : ℕ) (r : Report) (p : Plan Taken) → Takes (λ e. EndsAlone c (accept e)) (andThen (with-session c n last r) p)
-  session n last r p = takes-then (λ e. EndsAlone c (accept e)) (with-session c n last r) p (takes-all (λ t cause z. goes-ends z) p)
+  session : (n last : ℕ) (r : Report) (p : Plan Taken) → Takes (λ e. EndsAlone c (accept e)) (andThen (setting-session c n last r) p)
+  session n last r p = takes-then (λ e. EndsAlone c (accept e)) (setting-session c n last r) p (takes-all (λ t cause z. goes-ends z) p)
 
   whole-ends : (m : Message) → Takes (λ e. EndsAlone c (accept e)) (judgeWhole c m)
   whole-ends (msg.NoOperation n) = λ cause z. goes-ends z
@@ -70,7 +70,7 @@ module _ (c : Connection) where
   scope-ends m whole = settled (EndsAlone c) (breach c) accept (judgeWhole c m) (stops-all (λ n. tt) (judgeWhole c m)) (whole-ends m)
   scope-ends m (of-session i sm) =
       let p = receipt (roleOf (c .stage)) (ownStart c) (farStart c) (at c i) sm in
-      settled (EndsAlone c) (breach c) (λ t. accept (with-session c i (c .last) (message m (t .late)) t)) p (stops-all (λ n. tt) p) (takes-all (λ t cause z. goes-ends z) p)
+      settled (EndsAlone c) (breach c) (λ t. accept (setting-session c i (c .last) (message m (t .late)) t)) p (stops-all (λ n. tt) p) (takes-all (λ t cause z. goes-ends z) p)
 
   header-ends : (r : Role) (h : Result ℕ) → EndsAlone c (headerTaken c r h)
   header-ends r (ok far) = λ cause z. goes-ends z
@@ -131,8 +131,8 @@ GoesOn (violate b) = Unit {0}
 GoesOn (accept e) = e .ending ≡ goes-on
 
 module _ (c : Connection) (q : List ℕ) where
-  stays : (n last : ℕ) (r : Report) (p : Plan Taken) → Takes (λ e. GoesOn (accept e)) (andThen (with-session c n last r) p)
-  stays n last r p = takes-then (λ e. GoesOn (accept e)) (with-session c n last r) p (takes-all (λ t. refl) p)
+  stays : (n last : ℕ) (r : Report) (p : Plan Taken) → Takes (λ e. GoesOn (accept e)) (andThen (setting-session c n last r) p)
+  stays n last r p = takes-then (λ e. GoesOn (accept e)) (setting-session c n last r) p (takes-all (λ t. refl) p)
 
   goes-local : (p : Plan Effect) → Takes (λ e. GoesOn (accept e)) p → GoesOn (settle refuse accept p)
   goes-local p h = settled GoesOn refuse accept p (stops-all (λ n. tt) p) h

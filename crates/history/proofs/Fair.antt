@@ -19,7 +19,7 @@ use Rattle.state.specs.declared.Stage.the-variants as stage
 use Rattle.state.specs.declared.Setup.{Setup}
 use Rattle.protocol.specs.Queue.{slot}
 use Rattle.protocol.specs.Connection.{at, farStart, ended}
-use Rattle.protocol.specs.Judge.{Out, Ending, goes-on, ends, Effect, Decision, refuse, violate, accept, continued, errorAfter}
+use Rattle.protocol.specs.Judge.{Output, Ending, goes-on, ends, Effect, Decision, refuse, violate, accept, continued, errorAfter}
 use Rattle.protocol.specs.Result.{bytesOfAll}
 use Rattle.protocol.specs.Observed.{isReady, anyLapse, Seen, observe}
 use Rattle.protocol.proofs.Views.{look}
@@ -65,7 +65,7 @@ module _ (s : State) (o : Ok (setupOf (s .connection)) s) (k : Call) where
       → Move (readyAt s) (s .connection .last) (nextBy s k d .connection .last) (dataWritten (setupOf (s .connection)) (outBy s k d))
   moves-by (refuse n) g = still (nothing-data (setupOf (s .connection) .role)) refl
   moves-by (violate b) g =
-      still (ap (λ (os : List Out). dataNumber (readMessage (setupOf (s .connection) .role) (bytesOfAll (payloadOf (s .queue) k (violate b)) os))) (g .0)
+      still (ap (λ (os : List Output). dataNumber (readMessage (setupOf (s .connection) .role) (bytesOfAll (payloadOf (s .queue) k (violate b)) os))) (g .0)
       ∙ error-data (setupOf (s .connection) .role) (payloadOf (s .queue) k (violate b)) (s .connection .stage) (s .connection .own)) refl
   moves-by (accept e) g =
       subst (λ (m : ℕ). Move (readyAt s) (s .connection .last) m (dataWritten (setupOf (s .connection)) (outBy s k (accept e)))) (sym (marked (e .ending) e)) (g .moves)

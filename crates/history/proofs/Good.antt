@@ -17,7 +17,7 @@ use Rattle.state.specs.declared.Connection.{Connection}
 use Rattle.protocol.specs.Queue.{slot}
 use Rattle.protocol.specs.Receipt.{Taken}
 use Rattle.protocol.specs.Connection.{Cause, at, roleOf, exchanged, farNumber, farStart}
-use Rattle.protocol.specs.Judge.{Report, Ending, goes-on, ends, Effect, accept, with-session, commit}
+use Rattle.protocol.specs.Judge.{Report, Ending, goes-on, ends, Effect, accept, setting-session, commit}
 use Rattle.protocol.specs.Observed.{Event, observe, Seen, isReady, anyLapse}
 use Rattle.protocol.proofs.Views.{greetingOf, pingingOf, look, Formed}
 use Rattle.protocol.proofs.Sound.{Sound}
@@ -28,7 +28,7 @@ use Rattle.protocol.proofs.Legal.{AllLegal}
 use Rattle.history.specs.Log.{Call, State, queueAfter, payloadOf, outBy}
 use Rattle.history.specs.Account.{Line, lineAfter, events, reported, reportedOf, Account}
 use Rattle.history.specs.Fates.{endTold}
-use Rattle.history.specs.Meant.{meantFor, meantOfAll, meantBy, ReadAs, mayGo}
+use Rattle.history.specs.Meant.{meantFor, meantOfAll, meantBy, ReadInOrder, mayGo}
 use Rattle.history.specs.Claims.{dataWritten, isTurn, has, Fitting}
 
 abbrev pub lineOf : Connection → Line
@@ -109,7 +109,7 @@ pub record Good (setup : Setup) (s : State) (k : Call) (e : Effect) : Type 0 whe
   pub live : s .connection .over ≡ false
   pub concerns : reportedOf k (e .report) ≡ e .number
   pub means : e .outs ≡ meantBy setup (accountOf s (e .number)) k (ok (e .report))
-  pub reads : Fitting k → ReadAs (setup .role) (outBy s k (accept e) .wrote) (e .outs)
+  pub reads : Fitting k → ReadInOrder (setup .role) (outBy s k (accept e) .wrote) (e .outs)
   pub allowed : Every (mayGo setup (accountOf s (e .number)) (outBy s k (accept e))) (e .outs)
   pub legal : AllLegal (setup .role) (ownOf setup) (farStart (s .connection)) (drop 4 (outBy s k (accept e) .wrote)) (holds s (e .number))
       (events (setup .role) (e .number) (outBy s k (accept e)))
@@ -127,14 +127,14 @@ pub record ForSession (setup : Setup) (s : State) (k : Call) (n last : ℕ) (rep
   pub last-inside : last < 128
   pub up : exchanged (s .connection .stage) ≡ true
   pub sound : Sound (setup .role) (ownOf setup) (farStart (s .connection)) (at (s .connection) n) (slot n (s .queue)) h
-      (payloadOf (s .queue) k (accept (with-session (s .connection) n last rep t)))
-      (slot n (queueAfter (s .connection) (s .queue) k (accept (with-session (s .connection) n last rep t)))) d t
+      (payloadOf (s .queue) k (accept (setting-session (s .connection) n last rep t)))
+      (slot n (queueAfter (s .connection) (s .queue) k (accept (setting-session (s .connection) n last rep t)))) d t
   pub told : reported n k rep ≡ h
   pub not-told : (m : ℕ) → (n ≡ m → ⊥) → reported m k rep ≡ []
   pub frame : (m : ℕ) → m < 128 → (n ≡ m → ⊥)
-      → slot m (queueAfter (s .connection) (s .queue) k (accept (with-session (s .connection) n last rep t))) ≡ slot m (s .queue)
-  pub long : length (queueAfter (s .connection) (s .queue) k (accept (with-session (s .connection) n last rep t))) ≡ length (s .queue)
-  pub line : lineAfter (lineOf (s .connection)) (outBy s k (accept (with-session (s .connection) n last rep t))) ≡ lineOf (s .connection)
+      → slot m (queueAfter (s .connection) (s .queue) k (accept (setting-session (s .connection) n last rep t))) ≡ slot m (s .queue)
+  pub long : length (queueAfter (s .connection) (s .queue) k (accept (setting-session (s .connection) n last rep t))) ≡ length (s .queue)
+  pub line : lineAfter (lineOf (s .connection)) (outBy s k (accept (setting-session (s .connection) n last rep t))) ≡ lineOf (s .connection)
   pub untold : isTurn k ≡ true → h ≡ []
   pub fated : fateOf (t .session .outcome) ≡ fold (fateAfter (isUnsent (holds s n .sends))) (fateOf (at (s .connection) n .outcome)) h
   pub goes-on : endTold k (ok rep) ≡ not-ended

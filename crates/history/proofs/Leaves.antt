@@ -14,7 +14,7 @@ use Rattle.state.specs.declared.Stage.{Stage}
 use Rattle.state.specs.declared.Stage.the-variants as stage
 use Rattle.protocol.specs.Plan.{Plan, settle}
 use Rattle.protocol.specs.Connection.{Cause, shutdown-received, error-received, own-shutdown, line-lost, at, wellFormed, ending, ended}
-use Rattle.protocol.specs.Judge.{Report, done, served, header, message, Effect, Breach, Decision, refuse, violate, accept, errorAfter}
+use Rattle.protocol.specs.Judge.{Report, done, served, header-received, message, Effect, Breach, Decision, refuse, violate, accept, errorAfter}
 use Rattle.laws.specs.Room.{overlaid}
 use Rattle.protocol.specs.Result.{bytesOfAll, usedBy, startOf, endOf}
 use Rattle.history.specs.Log.{Call, start, open-session, put, finish, turn, grant, abort, close, shutdown, lost, receive, roomOf, State, decide, payloadOf, nextBy, outBy, next, out}
@@ -137,7 +137,7 @@ module _ (s : State) (k : Call) where
       go : (r : Report) → takesInput (ok r) ≡ false → (usedBy r ≡ 0) × (startOf r ≡ 0) × (endOf r ≡ 0)
       go done e = (refl, refl, refl)
       go (served n) e = (refl, refl, refl)
-      go (header far) e = absurd (true≢false e)
+      go (header-received far) e = absurd (true≢false e)
       go (message m late) e = absurd (true≢false e)
 
   -- an answer that is a violation comes from a decision that is one

@@ -27,7 +27,7 @@ use Rattle.state.specs.declared.Ping.the-variants as ping
 use Rattle.protocol.specs.Queue.{slot}
 use Rattle.protocol.specs.Message.{whole, scope}
 use Rattle.protocol.specs.Connection.{own-shutdown, line-lost, at, roleOf, exchanged, farNumber, farStart, placed, ending}
-use Rattle.protocol.specs.Judge.{Report, done, Out, own-header, sent, Ending, goes-on, ends, Effect, accept, commit}
+use Rattle.protocol.specs.Judge.{Report, done, Output, own-header, sent, Ending, goes-on, ends, Effect, accept, commit}
 use Rattle.protocol.specs.Call.{startRule, pingRule, shutdownRule, lostRule, isFresh}
 use Rattle.protocol.specs.Result.{bytesOfAll}
 use Rattle.protocol.specs.Observed.{Event, observe, Seen, isReady}
@@ -40,7 +40,7 @@ use Rattle.history.specs.Log.{Call, start, shutdown, lost, State, queueA
 use Rattle.history.specs.Log as log
 use Rattle.history.specs.Account.{lineAfter, events, reported, reportedOf, writtenMessage, inScope}
 use Rattle.history.specs.Fates.{endTold}
-use Rattle.history.specs.Meant.{ungreeted, meantBy, ReadAs, mayGo}
+use Rattle.history.specs.Meant.{ungreeted, meantBy, ReadInOrder, mayGo}
 use Rattle.history.proofs.Good.{Ok, Good, endedAs, setupOf, lineOf, holds, accountOf, ownOf, farBy, one}
 use Rattle.history.proofs.Written.{Sendable, sent-read, sent-read-back, opening-read-back, nothing-read-back, nothing-read, only-own}
 use Rattle.history.specs.Claims.{dataNumber, dataWritten, isTurn, Fitting}
@@ -114,7 +114,7 @@ idle-look {r} x s far far′ f = seen-path refl (go (x .sides) (f .place)) refl
 
 module _ (s : State) (o : Ok (setupOf (s .connection)) s) where
   -- an effect that concerns no session
-  abbrev lineEffect : Stage → Ping → Ending → Report → List Out → Effect
+  abbrev lineEffect : Stage → Ping → Ending → Report → List Output → Effect
   lineEffect st p en rep outs =
       record { number = 0; session = at (s .connection) 0; stage = st; last = s .connection .last; ping = p; ending = en; report = rep; outs = outs }
 
@@ -131,13 +131,13 @@ module _ (s : State) (o : Ok (setupOf (s .connection)) s) where
       idle-look (at (s .connection) n) sl (farBy st) (farStart (s .connection))
       (subst (λ (b : Bool). Formed (roleOf (s .connection .stage)) b (at (s .connection) n)) e (o .formed n h))
 
-  pub line-good : (k : Call) (st : Stage) (p : Ping) (en : Ending) (rep : Report) (outs : List Out) → isTurn k ≡ false
+  pub line-good : (k : Call) (st : Stage) (p : Ping) (en : Ending) (rep : Report) (outs : List Output) → isTurn k ≡ false
       → queueAfter (s .connection) (s .queue) k (accept (lineEffect st p en rep outs)) ≡ s .queue → roleOf st ≡ roleOf (s .connection .stage) → farNumber st < 65_536
       → (st ≡ s .connection .stage) ⊎ (exchanged (s .connection .stage) ≡ false)
       → ((m : ℕ) → events (roleOf (s .connection .stage)) m (outBy s k (accept (lineEffect st p en rep outs))) ≡ [])
       → lineAfter (lineOf (s .connection)) (outBy s k (accept (lineEffect st p en rep outs))) ≡ lineOf (commit (s .connection) (lineEffect st p en rep outs))
       → s .connection .over ≡ false → reportedOf k rep ≡ 0 → outs ≡ meantBy (setupOf (s .connection)) (accountOf s 0) k (ok rep)
-      → (Fitting k → ReadAs (roleOf (s .connection .stage)) (outBy s k (accept (lineEffect st p en rep outs)) .wrote) outs)
+      → (Fitting k → ReadInOrder (roleOf (s .connection .stage)) (outBy s k (accept (lineEffect st p en rep outs)) .wrote) outs)
       → Every (mayGo (setupOf (s .connection)) (accountOf s 0) (outBy s k (accept (lineEffect st p en rep outs)))) outs
       → endTold k (ok rep) ≡ endedAs en → Good (setupOf (s .connection)) s k (lineEffect st p en rep outs)
   unfolding fold

@@ -15,9 +15,9 @@ use Rattle.protocol.specs.Slot.{slotSize, queueSize}
 use Rattle.protocol.specs.Queue.{slot, putSlot, turnSlot}
 use Rattle.protocol.specs.Session.{queued}
 use Rattle.protocol.specs.Receipt.{Taken}
-use Rattle.protocol.specs.Ask.{putAsk, turnAsk, ready}
+use Rattle.protocol.specs.Ask.{putAsk, turnAsk, readySession}
 use Rattle.protocol.specs.Connection.{at, roleOf, exchanged, farStart, ownStart}
-use Rattle.protocol.specs.Judge.{done, served, with-session}
+use Rattle.protocol.specs.Judge.{done, served, setting-session}
 use Rattle.protocol.specs.Call.{putRule, turnRule, nextReady}
 use Rattle.protocol.specs.Observed.{puts, dueData}
 use Rattle.protocol.specs.Plan as plan
@@ -81,7 +81,7 @@ module _ (s : State) (o : Ok (setupOf (s .connection)) s) where
   pub turn-good : (room : List ℕ) → Takes (Good (setupOf (s .connection)) s (turn room)) (turnRule (s .connection) (length (s .queue)) (length room))
   unfolding turnRule
   turn-good room _ live up _ queue =
-      takes-then (Good (setupOf (s .connection)) s (turn room)) (with-session (s .connection) n n (served n)) (turnAsk (ownStart (s .connection)) (farStart (s .connection)) x)
+      takes-then (Good (setupOf (s .connection)) s (turn room)) (setting-session (s .connection) n n (served n)) (turnAsk (ownStart (s .connection)) (farStart (s .connection)) x)
       (takes-map (λ t z. session-good (setupOf (s .connection)) s (turn room) n n (served n) [] true t o (taken t (z .0) (z .1 .0) (z .1 .1))) (turnAsk (ownStart (s .connection)) (farStart (s .connection)) x)
       (takes-both
       (λ t. Sound (roleOf (s .connection .stage)) (ownStart (s .connection)) (farStart (s .connection)) x sl [] sl (turnSlot (x .waiting) (x .waiting - t .session .waiting) sl) true t)
@@ -95,7 +95,7 @@ module _ (s : State) (o : Ok (setupOf (s .connection)) s) where
       n = nextReady (s .connection)
 
       hn : nextReady (s .connection) < 128
-      hn = nearest-lt (λ i. ready (at (s .connection) i)) (s .connection .last) (o .last)
+      hn = nearest-lt (λ i. readySession (at (s .connection) i)) (s .connection .last) (o .last)
 
       x : Session
       x = at (s .connection) (nextReady (s .connection))
@@ -108,7 +108,7 @@ module _ (s : State) (o : Ok (setupOf (s .connection)) s) where
 
       near : (m : ℕ) → m < 128 → readyAt s m ≡ true → gap (s .connection .last) (nextReady (s .connection)) ≤ gap (s .connection .last) m
       near m h e =
-          nearest-found (λ i. ready (at (s .connection) i)) (s .connection .last) m (o .last) h
+          nearest-found (λ i. readySession (at (s .connection) i)) (s .connection .last) m (o .last) h
           (ready-look (farStart (s .connection)) (at (s .connection) m) (slot m (s .queue)) (o .fits m h) ∙ e) .near
 
       taken : (t : Taken) → Sound (roleOf (s .connection .stage)) (ownStart (s .connection)) (farStart (s .connection)) (at (s .connection) (nextReady (s .connection))) (slot (nextReady (s .connection)) (s .queue)) []

@@ -29,7 +29,7 @@ use Rattle.protocol.specs.Plan.{Plan, settle}
 use Rattle.protocol.specs.Message.{SessionMessage, Scope, whole, of-session, scope, numbered}
 use Rattle.protocol.specs.Receipt.{Taken, receipt}
 use Rattle.protocol.specs.Connection.{shutdown-received, error-received, line-lost, at, roleOf, exchanged, farStart, ownStart}
-use Rattle.protocol.specs.Judge.{header, message, Out, own-header, sent, Ending, goes-on, ends, Decision, refuse, violate, accept, with-session, continued, errorAfter, breach, judgeWhole, judgeScope, judge}
+use Rattle.protocol.specs.Judge.{header-received, message, Output, own-header, sent, Ending, goes-on, ends, Decision, refuse, violate, accept, setting-session, continued, errorAfter, breach, judgeWhole, judgeScope, judge}
 use Rattle.protocol.specs.Call.{otherEnd, unstarted, answering, headerTaken, messageTaken, reading, receiveGate, receiveRule}
 use Rattle.protocol.specs.Result.{bytesOfAll}
 use Rattle.protocol.specs.Observed.{Event, received, repliesTo, mayArrive, wrongNumber}
@@ -44,9 +44,9 @@ use Rattle.protocol.proofs.Fates.{receipt-fate}
 use Rattle.protocol.specs.Asked.{isUnsent}
 use Rattle.protocol.specs.Fate.{not-ended}
 use Rattle.history.specs.Log.{Call, receive, State, outBy}
-use Rattle.history.specs.Account.{Line, lineByMessage, inScope, numberIn, writtenMessage}
+use Rattle.history.specs.Account.{Line, lineByMessage, inScope, sessionIn, writtenMessage}
 use Rattle.history.specs.Fates.{endedByMessage}
-use Rattle.history.specs.Meant.{ungreeted, answeredIn, answerOfAll, ReadAs, mayGo}
+use Rattle.history.specs.Meant.{ungreeted, answeredIn, answerOfAll, ReadInOrder, mayGo}
 use Rattle.history.proofs.Good.{Ok, Good, endedAs, ForSession, setupOf, lineOf, holds, accountOf}
 use Rattle.history.proofs.Sessions.{session-good}
 use Rattle.history.proofs.Written.{Sendable, sent-read-back, opening-read-back, nothing-read-back, nothing-read, only-own, only-other}
@@ -165,7 +165,7 @@ module _ (s : State) (o : Ok (setupOf (s .connection)) s) (input room : List ℕ
   answers-mean role.Client = refl
   answers-mean role.Server = refl
 
-  answers-read : (r : Role) → ReadAs r (bytesOfAll [] (answering r (s .connection .own))) (answering r (s .connection .own))
+  answers-read : (r : Role) → ReadInOrder r (bytesOfAll [] (answering r (s .connection .own))) (answering r (s .connection .own))
   answers-read role.Client = nothing-read-back role.Client []
   answers-read role.Server = opening-read-back role.Server (s .connection .own) [] [] (o .header) (nothing-read-back role.Server [])
 
@@ -178,12 +178,12 @@ module _ (s : State) (o : Ok (setupOf (s .connection)) s) (input room : List ℕ
   header-good : (r : Role) → roleOf (s .connection .stage) ≡ r → exchanged (s .connection .stage) ≡ false → (isServer r ≡ true → ungreeted (greetingOf (s .connection .stage)) ≡ true)
       → (h : Result ℕ) → readConnectionHeader input ≡ h → GoodBy s (receive input room) (headerTaken (s .connection) r h)
   header-good r er up greets (ok far) q =
-      line-good s o (receive input room) (stage.Up r far) (s .connection .ping) goes-on (header far) (answering r (s .connection .own)) refl refl (sym er)
+      line-good s o (receive input room) (stage.Up r far) (s .connection .ping) goes-on (header-received far) (answering r (s .connection .own)) refl refl (sym er)
       (header-number input far q) (inr up)
       (λ n. subst (λ (z : Role). writtenMessage n (readMessage z (bytesOfAll [] (answering r (s .connection .own)))) ≡ []) (sym er) (answers r n))
       refl live refl
       (answers-mean r ∙ sym (ap (λ (z : Role). pick (isServer z) (own-header (s .connection .own) ∷ []) [] ++ []) er))
-      (λ _. subst (λ (z : Role). ReadAs z (bytesOfAll [] (answering r (s .connection .own))) (answering r (s .connection .own))) (sym er) (answers-read r))
+      (λ _. subst (λ (z : Role). ReadInOrder z (bytesOfAll [] (answering r (s .connection .own))) (answering r (s .connection .own))) (sym er) (answers-read r))
       (answers-go r far er greets) refl
   header-good r er up greets (refused n) q = tt
   header-good r er up greets (violation n) q = (refl, refl, live, begun)
@@ -199,9 +199,9 @@ module _ (s : State) (o : Ok (setupOf (s .connection)) s) (input room : List ℕ
   quiet-whole m p en z a line ended =
       line-good s o (receive input room) (s .connection .stage) p en (message m false) [] refl refl refl (o .far) (inl refl)
       (λ i. ap (λ (l : List Event). l ++ writtenMessage i (readMessage (roleOf (s .connection .stage)) (bytesOfAll [] []))) (ap (inScope i received) z) ∙ nothing-read (roleOf (s .connection .stage)) [] i)
-      line live (ap numberIn z)
-      (sym (ap (λ (l : List Out). l ++ map (λ x. sent (numbered (numberIn (scope m)) x)) (answeredIn (roleOf (s .connection .stage)) (holds s 0) (scope m))) a
-      ∙ ap (λ (y : Scope). map (λ x. sent (numbered (numberIn (scope m)) x)) (answeredIn (roleOf (s .connection .stage)) (holds s 0) y)) z))
+      line live (ap sessionIn z)
+      (sym (ap (λ (l : List Output). l ++ map (λ x. sent (numbered (sessionIn (scope m)) x)) (answeredIn (roleOf (s .connection .stage)) (holds s 0) (scope m))) a
+      ∙ ap (λ (y : Scope). map (λ x. sent (numbered (sessionIn (scope m)) x)) (answeredIn (roleOf (s .connection .stage)) (holds s 0) y)) z))
       (λ _. nothing-read-back (roleOf (s .connection .stage)) []) tt ended
 
   whole-good : (m : Message) → exchanged (s .connection .stage) ≡ true → Sent (otherEnd (roleOf (s .connection .stage))) m
@@ -249,7 +249,7 @@ module _ (s : State) (o : Ok (setupOf (s .connection)) s) (input room : List ℕ
         fated = z .1 .1 .1;
         goes-on = scope-ends m i sm e;
         live = live;
-        concerns = ap numberIn e;
+        concerns = ap sessionIn e;
         sends = z .1 .0 ∙ sym (ap (answeredIn (roleOf (s .connection .stage)) (holds s i)) e);
         quiet = scope-quiet m i sm e;
         heard = λ payload. (z .1 .1 .0, tt);
@@ -259,7 +259,7 @@ module _ (s : State) (o : Ok (setupOf (s .connection)) s) (input room : List ℕ
       → GoodBy s (receive input room) (judgeScope (s .connection) m z)
   judge-good m whole e up w = judged s (receive input room) accept (judgeWhole (s .connection) m) live begun (whole-good m up w)
   judge-good m (of-session i sm) e up w =
-      judged s (receive input room) (λ t. accept (with-session (s .connection) i (s .connection .last) (message m (t .late)) t)) rule live begun
+      judged s (receive input room) (λ t. accept (setting-session (s .connection) i (s .connection .last) (message m (t .late)) t)) rule live begun
       (takes-map
       (λ t z. session-good (setupOf (s .connection)) s (receive input room) i (s .connection .last) (message m (t .late)) (received sm ∷ []) false t o
       (session-message m i sm e up hi t z)) rule

@@ -19,7 +19,7 @@ use Rattle.protocol.specs.Plan.{Plan, check, settle, andThen}
 use Rattle.protocol.specs.Message.{Scope, whole, of-session, scope}
 use Rattle.protocol.specs.Receipt.{Taken, receipt}
 use Rattle.protocol.specs.Connection.{line-lost, at, roleOf, ownStart, farStart, wellFormed}
-use Rattle.protocol.specs.Judge.{Report, done, message, Effect, Decision, refuse, violate, accept, with-session, errorAfter, breach, judgeWhole, judgeScope, judge}
+use Rattle.protocol.specs.Judge.{Report, done, message, Effect, Decision, refuse, violate, accept, setting-session, errorAfter, breach, judgeWhole, judgeScope, judge}
 use Rattle.protocol.specs.Call.{startRule, openRule, putRule, finishRule, turnRule, grantRule, abortRule, closeRule, pingRule, shutdownRule, lostRule, receiveRule, nextReady, otherEnd, headerTaken, messageTaken, reading}
 use Rattle.protocol.specs.Ask.{openAsk, putAsk, finishAsk, grantAsk, abortAsk, closeAsk, turnAsk}
 use Rattle.protocol.proofs.Plans.{stops, passes, settled, takes-all, Stops, stops-then, stops-map}
@@ -46,7 +46,7 @@ module _ (c : Connection) where
   scope-ruled m whole = settled (Ruled c) (breach c) accept (judgeWhole c m) (breached (judgeWhole c m) (whole-high c m)) (takes-all (λ e. tt) (judgeWhole c m))
   scope-ruled m (of-session i sm) =
       let p = receipt (roleOf (c .stage)) (ownStart c) (farStart c) (at c i) sm in
-      settled (Ruled c) (breach c) (λ t. accept (with-session c i (c .last) (message m (t .late)) t)) p
+      settled (Ruled c) (breach c) (λ t. accept (setting-session c i (c .last) (message m (t .late)) t)) p
       (breached p (receipt-high (at c i) (roleOf (c .stage)) (ownStart c) (farStart c) sm)) (takes-all (λ t. tt) p)
 
   message-ruled : (h : Result Message) → ShortOnly h → Ruled c (messageTaken c h)
@@ -60,8 +60,8 @@ module _ (c : Connection) where
   reading-ruled input stage.Started = header-ruled _ (readConnectionHeader input) (header-short input)
   reading-ruled input (stage.Up r far) = message-ruled (readMessage (otherEnd r) input) (message-short (otherEnd r) input)
 
-  session : (n last : ℕ) (r : Report) (p : Plan Taken) → Stops Low p → Stops Low (andThen (with-session c n last r) p)
-  session n last r p h = stops-then Low (with-session c n last r) p h
+  session : (n last : ℕ) (r : Report) (p : Plan Taken) → Stops Low p → Stops Low (andThen (setting-session c n last r) p)
+  session n last r p h = stops-then Low (setting-session c n last r) p h
 
   -- of a state that is well formed
   module _ (formed : wellFormed c ≡ true) where

@@ -20,7 +20,7 @@ use Rattle.protocol.specs.Queue.{slot}
 use Rattle.protocol.specs.Message.{SessionMessage, data-of, increment-of, abort-of, close-of, acknowledgment-of, numbered}
 use Rattle.protocol.specs.Receipt.{Taken}
 use Rattle.protocol.specs.Connection.{Cause, at, farStart}
-use Rattle.protocol.specs.Judge.{Report, Out, sent, goes-on, ends, accept, with-session}
+use Rattle.protocol.specs.Judge.{Report, Output, sent, goes-on, ends, accept, setting-session}
 use Rattle.protocol.specs.Result.{bytesOfAll}
 use Rattle.protocol.specs.Observed.{Event, observe, Sending, silent, sending, Seen, isReady, lapses, anyLapse, startTold, mayWrite, fromRole}
 use Rattle.protocol.specs.Asked.{isUnsent}
@@ -30,7 +30,7 @@ use Rattle.protocol.proofs.Sound.{AllLawful, Carries, writes, isData, anyData}
 use Rattle.protocol.proofs.Legal.{Bears, AllLegal}
 use Rattle.history.specs.Log.{Call, State, queueAfter, payloadOf, outBy}
 use Rattle.history.specs.Account.{events, reported, reportedOf, writtenMessage}
-use Rattle.history.specs.Meant.{meantFor, meantBy, ReadAs, messageMayGo, mayGo}
+use Rattle.history.specs.Meant.{meantFor, meantBy, ReadInOrder, messageMayGo, mayGo}
 use Rattle.history.specs.Claims.{dataNumber, dataWritten, has}
 use Rattle.history.proofs.Good.{Ok, Good, ForSession, holds, accountOf, ownOf, readyAt, one}
 use Rattle.history.proofs.Written.{nothing-refused, numbered-read, numbered-read-back, nothing-read-back, sent-payload, scope-numbered, written-own, written-other, nothing-read}
@@ -50,7 +50,7 @@ module _ (r : Role) (own far : Ration) (x : Session) (sl : List ℕ) (h : List E
   wrote-other i d (m ∷ j ∷ ms) l = absurd l
 
   reads-own : (ms : List SessionMessage) → AllLawful r own far x sl h payload ms
-      → ReadAs r (bytesOfAll payload (map (λ m. sent (numbered n m)) ms)) (map (λ m. sent (numbered n m)) ms)
+      → ReadInOrder r (bytesOfAll payload (map (λ m. sent (numbered n m)) ms)) (map (λ m. sent (numbered n m)) ms)
   reads-own [] l = nothing-read-back r payload
   reads-own (m ∷ []) l = numbered-read-back r n m payload hn (l .ours) (l .fits) (l .body)
   reads-own (m ∷ j ∷ ms) l = absurd l
@@ -106,19 +106,19 @@ pub own-has : (n : ℕ) → has n (n ∷ []) ≡ true
 own-has n = ap (λ (b : Bool). b || false) (eq-eqb n n refl)
 
 module _ (setup : Setup) (s : State) (k : Call) (n last : ℕ) (rep : Report) (h : List Event) (t : Taken) (o : Ok setup s) where
-  written-data : (d : Bool) → ForSession setup s k n last rep h d t → dataWritten setup (outBy s k (accept (with-session (s .connection) n last rep t))) ≡ one d n
+  written-data : (d : Bool) → ForSession setup s k n last rep h d t → dataWritten setup (outBy s k (accept (setting-session (s .connection) n last rep t))) ≡ one d n
   written-data d g =
       data-sent (setup .role) (ownOf setup) (farStart (s .connection)) (at (s .connection) n) (slot n (s .queue)) h n (g .inside)
-      (payloadOf (s .queue) k (accept (with-session (s .connection) n last rep t))) (t .sent) d (g .sound .lawful) (g .sound .sends-data)
+      (payloadOf (s .queue) k (accept (setting-session (s .connection) n last rep t))) (t .sent) d (g .sound .lawful) (g .sound .sends-data)
 
   moved : (d : Bool) → ForSession setup s k n last rep h d t
-      → Move (readyAt s) (s .connection .last) last (dataWritten setup (outBy s k (accept (with-session (s .connection) n last rep t))))
+      → Move (readyAt s) (s .connection .last) last (dataWritten setup (outBy s k (accept (setting-session (s .connection) n last rep t))))
   moved true g = serves n (written-data true g) (g .mark .0) (g .inside) (g .mark .1)
   moved false g = still (written-data false g) (g .mark)
 
   lasting : (d : Bool) (g : ForSession setup s k n last rep h d t) (es : List Event) → es ≡ h ++ writes (t .sent) → readyAt s n ≡ true → anyLapse es ≡ false
-      → has n (dataWritten setup (outBy s k (accept (with-session (s .connection) n last rep t)))) ≡ false
-      → isReady (look (farStart (s .connection)) (t .session) (slot n (queueAfter (s .connection) (s .queue) k (accept (with-session (s .connection) n last rep t)))) .sends) ≡ true
+      → has n (dataWritten setup (outBy s k (accept (setting-session (s .connection) n last rep t)))) ≡ false
+      → isReady (look (farStart (s .connection)) (t .session) (slot n (queueAfter (s .connection) (s .queue) k (accept (setting-session (s .connection) n last rep t)))) .sends) ≡ true
   lasting true g es e hr hl hd = absurd (true-false (own-has n) (sym (ap (has n) (written-data true g)) ∙ hd))
   lasting false g es e hr hl hd = g .sound .lasts hr (lapse-first h (writes (t .sent)) (sym (ap anyLapse e) ∙ hl)) (g .sound .sends-data)
 
@@ -127,14 +127,14 @@ module _ (setup : Setup) (s : State) (k : Call) (n last : ℕ) (rep : Report) (h
   wrote-means d g =
       ap (λ (ms : List SessionMessage). map (λ m. sent (numbered n m)) ms) (g .sends)
       ∙ sym (ap (λ (i : ℕ). map (λ m. sent (numbered i m)) (meantFor (setup .role) k rep (holds s n))) (g .concerns))
-      ∙ sym (ap (λ (os : List Out). os ++ map (λ m. sent (numbered (reportedOf k rep) m)) (meantFor (setup .role) k rep (holds s n))) (g .quiet))
+      ∙ sym (ap (λ (os : List Output). os ++ map (λ m. sent (numbered (reportedOf k rep) m)) (meantFor (setup .role) k rep (holds s n))) (g .quiet))
 
   -- every message that is written may be sent then
   may-own : (d : Bool) → ForSession setup s k n last rep h d t → (m : SessionMessage)
       → mayWrite (setup .role) (farStart (s .connection)) (fold (observe (ownOf setup) (farStart (s .connection))) (holds s n) h) m ≡ true → fromRole (setup .role) m ≡ true
-      → mayGo setup (accountOf s n) (outBy s k (accept (with-session (s .connection) n last rep t))) (sent (numbered n m)) ≡ true
+      → mayGo setup (accountOf s n) (outBy s k (accept (setting-session (s .connection) n last rep t))) (sent (numbered n m)) ≡ true
   may-own d g m now ours =
-      let e = outBy s k (accept (with-session (s .connection) n last rep t)) in
+      let e = outBy s k (accept (setting-session (s .connection) n last rep t)) in
       let same : reported (reportedOf k rep) k rep ≡ h = ap (λ (i : ℕ). reported i k rep) (g .concerns) ∙ g .told in
       let far : startTold (greetingOf (s .connection .stage)) ≡ farStart (s .connection) = start-told (s .connection .stage) in
       let here : mayWrite (setup .role) (startTold (greetingOf (s .connection .stage))) (fold (observe (ownOf setup) (startTold (greetingOf (s .connection .stage)))) (holds s n) (reported (reportedOf k rep) k rep)) m ≡ true =
@@ -146,16 +146,16 @@ module _ (setup : Setup) (s : State) (k : Call) (n last : ℕ) (rep : Report) (h
 
   allows-own : (d : Bool) → ForSession setup s k n last rep h d t → (payload : List ℕ) (ms : List SessionMessage)
       → AllLawful (setup .role) (ownOf setup) (farStart (s .connection)) (at (s .connection) n) (slot n (s .queue)) h payload ms
-      → Every (mayGo setup (accountOf s n) (outBy s k (accept (with-session (s .connection) n last rep t)))) (map (λ m. sent (numbered n m)) ms)
+      → Every (mayGo setup (accountOf s n) (outBy s k (accept (setting-session (s .connection) n last rep t)))) (map (λ m. sent (numbered n m)) ms)
   unfolding Every
   allows-own d g payload [] l = tt
   allows-own d g payload (m ∷ []) l = (may-own d g m (l .now) (l .ours), tt)
   allows-own d g payload (m ∷ j ∷ ms) l = absurd l
 
 pub session-good : (setup : Setup) (s : State) (k : Call) (n last : ℕ) (rep : Report) (h : List Event) (d : Bool) (t : Taken) → Ok setup s
-    → ForSession setup s k n last rep h d t → Good setup s k (with-session (s .connection) n last rep t)
+    → ForSession setup s k n last rep h d t → Good setup s k (setting-session (s .connection) n last rep t)
 session-good setup s k n last rep h d t o g =
-    let e = with-session (s .connection) n last rep t in
+    let e = setting-session (s .connection) n last rep t in
     let x = at (s .connection) n in
     let sl = slot n (s .queue) in
     let far = farStart (s .connection) in

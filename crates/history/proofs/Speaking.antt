@@ -16,13 +16,13 @@ use Rattle.state.specs.declared.Stage.{Stage}
 use Rattle.state.specs.declared.Stage.the-variants as stage
 use Rattle.state.specs.declared.Setup.{Setup}
 use Rattle.protocol.specs.Connection.{roleOf}
-use Rattle.protocol.specs.Judge.{Out, own-header, sent, Breach, Decision, refuse, violate, accept, errorAfter}
+use Rattle.protocol.specs.Judge.{Output, own-header, sent, Breach, Decision, refuse, violate, accept, errorAfter}
 use Rattle.protocol.specs.Result.{bytesOfAll}
 use Rattle.protocol.proofs.Views.{greetingOf}
 use Rattle.history.specs.Log.{Call, State, Entry, decide, payloadOf, outBy, out}
 use Rattle.history.specs.Log as log
 use Rattle.history.specs.Account.{Account, concerned}
-use Rattle.history.specs.Meant.{ungreeted, meantBy, ReadAs, mayGo}
+use Rattle.history.specs.Meant.{ungreeted, meantBy, ReadInOrder, mayGo}
 use Rattle.history.specs.Claims.{Fitting, accountBefore, ReadsBack, SendsAllowed}
 use Rattle.history.proofs.Good.{Ok, setupOf, accountOf}
 use Rattle.history.proofs.Written.{sent-read-back, opening-read-back}
@@ -32,7 +32,7 @@ use Rattle.history.proofs.Entries.{of-entries}
 
 -- what an entry writes, by what is told of the number that it concerns
 pub record Speaks (s : Setup) (a : Account) (e : Entry) : Type 0 where
-  pub reads : Fitting (e .call) → ReadAs (s .role) (e .wrote) (meantBy s a (e .call) (e .answer))
+  pub reads : Fitting (e .call) → ReadInOrder (s .role) (e .wrote) (meantBy s a (e .call) (e .answer))
   pub allowed : Every (mayGo s a e) (meantBy s a (e .call) (e .answer))
 
 -- ---- the answer to a violation
@@ -43,12 +43,12 @@ error-means (stage.Fresh r) own = refl
 error-means stage.Started own = refl
 error-means (stage.Up r far) own = refl
 
-error-read : (r : Role) (payload : List ℕ) → ReadAs r (bytesOfAll payload (sent (msg.Error 0) ∷ [])) (sent (msg.Error 0) ∷ [])
+error-read : (r : Role) (payload : List ℕ) → ReadInOrder r (bytesOfAll payload (sent (msg.Error 0) ∷ [])) (sent (msg.Error 0) ∷ [])
 error-read r payload =
     sent-read-back r (msg.Error 0) payload
     (record { shift = omega arith; session = omega arith; number = omega arith; sender = refl; flags = refl; body = omega arith })
 
-error-reads : (r : Role) (payload : List ℕ) (st : Stage) (own : ℕ) → own < 65_536 → ReadAs r (bytesOfAll payload (errorAfter st own)) (errorAfter st own)
+error-reads : (r : Role) (payload : List ℕ) (st : Stage) (own : ℕ) → own < 65_536 → ReadInOrder r (bytesOfAll payload (errorAfter st own)) (errorAfter st own)
 error-reads r payload (stage.Fresh q) own h = opening-read-back r own payload (sent (msg.Error 0) ∷ []) h (error-read r payload)
 error-reads r payload stage.Started own h = error-read r payload
 error-reads r payload (stage.Up q far) own h = error-read r payload
@@ -78,7 +78,7 @@ module _ (s : State) (o : Ok (setupOf (s .connection)) s) (k : Call) where
   number-in (accept e) g = subst (λ (n : ℕ). n < 128) (sym (g .concerns)) (g .inside)
 
   speaks-by : (d : Decision) → GoodBy s k d → Speaks (setupOf (s .connection)) (accountOf s (concerned k (outBy s k d .answer))) (outBy s k d)
-  unfolding ReadAs Every
+  unfolding ReadInOrder Every
   speaks-by (refuse n) g = record { reads = λ _. refl; allowed = tt }
   speaks-by (violate b) g =
       let st = s .connection .stage in
@@ -86,18 +86,18 @@ module _ (s : State) (o : Ok (setupOf (s .connection)) s) (k : Call) where
       let p = payloadOf (s .queue) k (violate b) in
       record {
         reads =
-            λ _. subst (λ (os : List Out). ReadAs (roleOf (s .connection .stage)) (bytesOfAll p (b .reply)) os) (error-means st own)
-            (subst (λ (os : List Out). ReadAs (roleOf (s .connection .stage)) (bytesOfAll p os) (errorAfter st own)) (sym (g .0))
+            λ _. subst (λ (os : List Output). ReadInOrder (roleOf (s .connection .stage)) (bytesOfAll p (b .reply)) os) (error-means st own)
+            (subst (λ (os : List Output). ReadInOrder (roleOf (s .connection .stage)) (bytesOfAll p os) (errorAfter st own)) (sym (g .0))
             (error-reads (roleOf (s .connection .stage)) p st own (o .header)));
         allowed =
-            subst (λ (os : List Out). Every (mayGo (setupOf (s .connection)) (accountOf s 0) (outBy s k (violate b))) os) (error-means st own)
+            subst (λ (os : List Output). Every (mayGo (setupOf (s .connection)) (accountOf s 0) (outBy s k (violate b))) os) (error-means st own)
             (error-goes s k b st refl (g .2) (g .3));
       }
   speaks-by (accept e) g =
       subst (λ (n : ℕ). Speaks (setupOf (s .connection)) (accountOf s n) (outBy s k (accept e))) (sym (g .concerns))
       (record {
-        reads = λ fits. subst (λ (os : List Out). ReadAs (roleOf (s .connection .stage)) (outBy s k (accept e) .wrote) os) (g .means) (g .reads fits);
-        allowed = subst (λ (os : List Out). Every (mayGo (setupOf (s .connection)) (accountOf s (e .number)) (outBy s k (accept e))) os) (g .means) (g .allowed);
+        reads = λ fits. subst (λ (os : List Output). ReadInOrder (roleOf (s .connection .stage)) (outBy s k (accept e) .wrote) os) (g .means) (g .reads fits);
+        allowed = subst (λ (os : List Output). Every (mayGo (setupOf (s .connection)) (accountOf s (e .number)) (outBy s k (accept e))) os) (g .means) (g .allowed);
       })
 
 -- ---- of a log

@@ -15,7 +15,7 @@ use Rattle.protocol.specs.Message.{SessionMessage, increment-of, close-of}
 use Rattle.protocol.specs.Receipt.{Taken}
 use Rattle.protocol.specs.Ask.{openAsk, finishAsk, grantAsk, abortAsk, closeAsk}
 use Rattle.protocol.specs.Connection.{at, roleOf, exchanged, farNumber, farStart, ownStart}
-use Rattle.protocol.specs.Judge.{done, with-session}
+use Rattle.protocol.specs.Judge.{done, setting-session}
 use Rattle.protocol.specs.Call.{openRule, finishRule, grantRule, abortRule, closeRule}
 use Rattle.protocol.specs.Observed.{Event, opens, finishes, aborts}
 use Rattle.laws.specs.Runs.{fold}
@@ -61,11 +61,11 @@ module _ (s : State) (o : Ok (setupOf (s .connection)) s) where
       → ((t : Taken) → Sound (roleOf (s .connection .stage)) (ownStart (s .connection)) (farStart (s .connection)) (at (s .connection) n) (slot n (s .queue)) h [] (slot n (s .queue)) false t
       → Sends ms t → Fates s n h t → Told → ForSession (setupOf (s .connection)) s k n (s .connection .last) done h false t)
       → Takes (Sound (roleOf (s .connection .stage)) (ownStart (s .connection)) (farStart (s .connection)) (at (s .connection) n) (slot n (s .queue)) h [] (slot n (s .queue)) false) p
-      → Takes (Sends ms) p → Takes (Fates s n h) p → Takes (λ t. Told) p → Takes (Good (setupOf (s .connection)) s k) (andThen (with-session (s .connection) n (s .connection .last) done) p)
+      → Takes (Sends ms) p → Takes (Fates s n h) p → Takes (λ t. Told) p → Takes (Good (setupOf (s .connection)) s k) (andThen (setting-session (s .connection) n (s .connection .last) done) p)
   quiet-good k n h ms Told p f g l v w =
       let A : Taken → Type 0 =
       Sound (roleOf (s .connection .stage)) (ownStart (s .connection)) (farStart (s .connection)) (at (s .connection) n) (slot n (s .queue)) h [] (slot n (s .queue)) false in
-      takes-then (Good (setupOf (s .connection)) s k) (with-session (s .connection) n (s .connection .last) done) p
+      takes-then (Good (setupOf (s .connection)) s k) (setting-session (s .connection) n (s .connection .last) done) p
       (takes-map (λ t z. session-good (setupOf (s .connection)) s k n (s .connection .last) done h false t o (f t (z .0) (z .1 .0) (z .1 .1 .0) (z .1 .1 .1))) p
       (takes-both A (λ t. Sends ms t × (Fates s n h t × Told)) p g (takes-both (Sends ms) (λ t. Fates s n h t × Told) p l (takes-both (Fates s n h) (λ t. Told) p v w))))
 

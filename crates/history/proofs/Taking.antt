@@ -23,7 +23,7 @@ use Rattle.protocol.specs.Plan.{Plan, settle}
 use Rattle.protocol.specs.Message.{SessionMessage, Scope, whole, of-session, scope}
 use Rattle.protocol.specs.Receipt.{Taken, receipt}
 use Rattle.protocol.specs.Connection.{at, roleOf, exchanged, ownStart, farStart, wellFormed}
-use Rattle.protocol.specs.Judge.{message, Effect, Decision, accept, with-session, breach, matches, judgeWhole, judgeScope, judge}
+use Rattle.protocol.specs.Judge.{message, Effect, Decision, accept, setting-session, breach, matches, judgeWhole, judgeScope, judge}
 use Rattle.protocol.specs.Call.{otherEnd, messageTaken, reading, receiveRule}
 use Rattle.protocol.specs.Observed.{greeted, lateFor, mayArrive, wrongNumber}
 use Rattle.protocol.proofs.Plans.{Takes, Exactly, exact-takes, exact-stops, takes-map}
@@ -114,7 +114,7 @@ module _ (s : State) (k : Call) (m : Message) where
       let hi : i < 128 = subst (λ (n : ℕ). n < 128) (scope-number m i x e) (w .session) in
       let c = s .connection in
       let p = receipt (roleOf (c .stage)) (ownStart c) (farStart c) (at c i) x in
-      by-plan (λ (t : Taken). with-session c i (c .last) (message m (t .late)) t) (test s m (of-session i x)) (wrongIn s (of-session i x)) (lateIn s (of-session i x)) p
+      by-plan (λ (t : Taken). setting-session c i (c .last) (message m (t .late)) t) (test s m (of-session i x)) (wrongIn s (of-session i x)) (lateIn s (of-session i x)) p
       (receipt-exact (roleOf (c .stage)) (ownStart c) (farStart c) (at c i) (slot i (s .queue)) x (formed-up s (own-ok setup s o) up i hi .place) (possible (roleOf (c .stage)) m i x e w))
       (takes-map (λ t e. ap (message m) e) p (receipt-late (roleOf (c .stage)) (at c i) (ownStart c) (farStart c) x))
 

@@ -24,9 +24,9 @@ use Rattle.protocol.specs.Queue.{slot}
 use Rattle.protocol.specs.Plan.{Plan, check, settle}
 use Rattle.protocol.specs.Message.{SessionMessage, numbered}
 use Rattle.protocol.specs.Receipt.{Taken}
-use Rattle.protocol.specs.Ask.{ready}
+use Rattle.protocol.specs.Ask.{readySession}
 use Rattle.protocol.specs.Connection.{at, exchanged, farStart, ownStart, wellFormed}
-use Rattle.protocol.specs.Judge.{served, sent, Effect, Decision, refuse, accept, with-session}
+use Rattle.protocol.specs.Judge.{served, sent, Effect, Decision, refuse, accept, setting-session}
 use Rattle.protocol.specs.Call.{nextReady, serving, turnRule}
 use Rattle.protocol.specs.Result.{bytesOfAll, decided}
 use Rattle.protocol.specs.Observed.{Sending, silent, sending, isReady, dueLength, dueData}
@@ -51,26 +51,26 @@ pub record Clear (s : State) (room : ℕ) : Type 0 where
 
 pub data Way (s : State) (room : ℕ) (d : Decision) : Type 0 where
   early : (j : ℕ) → (j ≡ 9 → ⊥) → (Clear s room → ⊥) → d ≡ refuse j → Way s room d
-  none : Clear s room → ready (at (s .connection) (nextReady (s .connection))) ≡ false → d ≡ refuse 9 → Way s room d
-  taken : Clear s room → ready (at (s .connection) (nextReady (s .connection))) ≡ true → (t : Taken)
+  none : Clear s room → readySession (at (s .connection) (nextReady (s .connection))) ≡ false → d ≡ refuse 9 → Way s room d
+  taken : Clear s room → readySession (at (s .connection) (nextReady (s .connection))) ≡ true → (t : Taken)
       → t .sent ≡ dueData (holds s (nextReady (s .connection)) .sends) ∷ []
-      → d ≡ accept (with-session (s .connection) (nextReady (s .connection)) (nextReady (s .connection)) (served (nextReady (s .connection))) t) → Way s room d
+      → d ≡ accept (setting-session (s .connection) (nextReady (s .connection)) (nextReady (s .connection)) (served (nextReady (s .connection))) t) → Way s room d
 
 module _ (setup : Setup) (s : State) (o : Ok setup s) (room : List ℕ) where
   at-end : Clear s (length room) → decided (turnRule (s .connection) (length (s .queue)) (length room)) ≡ settle refuse accept (serving (s .connection) (nextReady (s .connection)))
       → Way s (length room) (decided (turnRule (s .connection) (length (s .queue)) (length room)))
-  at-end clear e = go (ready (at (s .connection) (nextReady (s .connection)))) refl
+  at-end clear e = go (readySession (at (s .connection) (nextReady (s .connection)))) refl
     where
       n : ℕ
       n = nextReady (s .connection)
 
       f : Taken → Effect
-      f = with-session (s .connection) (nextReady (s .connection)) (nextReady (s .connection)) (served (nextReady (s .connection)))
+      f = setting-session (s .connection) (nextReady (s .connection)) (nextReady (s .connection)) (served (nextReady (s .connection)))
 
       hn : nextReady (s .connection) < 128
-      hn = nearest-lt (λ i. ready (at (s .connection) i)) (s .connection .last) (o .last)
+      hn = nearest-lt (λ i. readySession (at (s .connection) i)) (s .connection .last) (o .last)
 
-      go : (b : Bool) → ready (at (s .connection) (nextReady (s .connection))) ≡ b → Way s (length room) (decided (turnRule (s .connection) (length (s .queue)) (length room)))
+      go : (b : Bool) → readySession (at (s .connection) (nextReady (s .connection))) ≡ b → Way s (length room) (decided (turnRule (s .connection) (length (s .queue)) (length room)))
       go true r =
           let g =
           turn-goes refuse accept f (ownStart (s .connection)) (farStart (s .connection)) (at (s .connection) n)
@@ -150,7 +150,7 @@ waiting-look far x sl r = go (x .sides) r
     go (sides.Live side.Ended t) e = absurd (false≢true e)
 
 pub turn-bytes : (s : State) (n last : ℕ) (t : Taken) (v : Sending) → t .sent ≡ dueData v ∷ []
-    → bytesOfAll (slot n (s .queue)) (with-session (s .connection) n last (served n) t .outs)
+    → bytesOfAll (slot n (s .queue)) (setting-session (s .connection) n last (served n) t .outs)
     ≡ wire.header (numbered n (dueData v)) ++ take (wire.bodyLength (numbered n (dueData v))) (slot n (s .queue))
 unfolding bytesOfAll
 turn-bytes s n last t v e =

@@ -18,13 +18,13 @@ use Rattle.wire.specs.Message.{maySend, flagsAllowed, kindOfMessage, effectiveI
 use Rattle.wire.proofs.Laws.{read-written}
 use Rattle.wire.proofs.ConnectionLaws.{header-read-written}
 use Rattle.protocol.specs.Message.{SessionMessage, data-of, increment-of, abort-of, close-of, acknowledgment-of, of-session, scope, numbered}
-use Rattle.protocol.specs.Judge.{Out, own-header, sent}
+use Rattle.protocol.specs.Judge.{Output, own-header, sent}
 use Rattle.protocol.specs.Result.{bytesOf, bytesOfAll}
 use Rattle.protocol.specs.Observed.{Event, wrote, fromRole}
 use Rattle.protocol.proofs.Sound.{Fits, carried}
 use Rattle.protocol.proofs.Reports.{used-is}
 use Rattle.history.specs.Account.{only, inScope, writtenMessage}
-use Rattle.history.specs.Meant.{ReadAs}
+use Rattle.history.specs.Meant.{ReadInOrder}
 
 -- ---- a message without a body, or with one
 
@@ -57,18 +57,18 @@ pub sent-length : (m : Message) (payload : List ℕ) → bodyLength m ≤ length
 unfolding bytesOfAll
 sent-length m payload h = drop-at (bytesOf payload (sent m)) [] (4 + bodyLength m) (used-is m false payload h)
 
-pub sent-read-back : (r : Role) (m : Message) (payload : List ℕ) → Sendable r m payload → ReadAs r (bytesOfAll payload (sent m ∷ [])) (sent m ∷ [])
-unfolding ReadAs
+pub sent-read-back : (r : Role) (m : Message) (payload : List ℕ) → Sendable r m payload → ReadInOrder r (bytesOfAll payload (sent m ∷ [])) (sent m ∷ [])
+unfolding ReadInOrder
 sent-read-back r m payload w = (sent-read r m payload w, sent-length m payload (w .body))
 
 -- a connection header, and what follows it
-pub opening-read-back : (r : Role) (n : ℕ) (payload : List ℕ) (outs : List Out) → n < 65_536 → ReadAs r (bytesOfAll payload outs) outs
-    → ReadAs r (bytesOfAll payload (own-header n ∷ outs)) (own-header n ∷ outs)
-unfolding ReadAs bytesOfAll
+pub opening-read-back : (r : Role) (n : ℕ) (payload : List ℕ) (outs : List Output) → n < 65_536 → ReadInOrder r (bytesOfAll payload outs) outs
+    → ReadInOrder r (bytesOfAll payload (own-header n ∷ outs)) (own-header n ∷ outs)
+unfolding ReadInOrder bytesOfAll
 opening-read-back r n payload outs h k = (header-read-written n (bytesOfAll payload outs) h, k)
 
-pub nothing-read-back : (r : Role) (payload : List ℕ) → ReadAs r (bytesOfAll payload []) []
-unfolding ReadAs bytesOfAll
+pub nothing-read-back : (r : Role) (payload : List ℕ) → ReadInOrder r (bytesOfAll payload []) []
+unfolding ReadInOrder bytesOfAll
 nothing-read-back r payload = refl
 
 -- ---- messages of a session
@@ -101,7 +101,7 @@ pub numbered-read : (r : Role) (i : ℕ) (m : SessionMessage) (payload : List �
 numbered-read r i m payload h f fits l = sent-read r (numbered i m) payload (sendable r i m payload h f fits l)
 
 pub numbered-read-back : (r : Role) (i : ℕ) (m : SessionMessage) (payload : List ℕ) → i < 128 → fromRole r m ≡ true → Fits m → carried m ≤ length payload
-    → ReadAs r (bytesOfAll payload (sent (numbered i m) ∷ [])) (sent (numbered i m) ∷ [])
+    → ReadInOrder r (bytesOfAll payload (sent (numbered i m) ∷ [])) (sent (numbered i m) ∷ [])
 numbered-read-back r i m payload h f fits l = sent-read-back r (numbered i m) payload (sendable r i m payload h f fits l)
 
 -- ---- as events

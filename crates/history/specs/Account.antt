@@ -15,7 +15,7 @@ use Rattle.wire.specs.declared.Message.the-variants as msg
 use Rattle.wire.specs.Message.{readMessage}
 use Rattle.state.specs.declared.Setup.{Setup}
 use Rattle.protocol.specs.Message.{SessionMessage, Scope, whole, of-session, scope}
-use Rattle.protocol.specs.Judge.{Report, done, served, header, message}
+use Rattle.protocol.specs.Judge.{Report, done, served, header-received, message}
 use Rattle.protocol.specs.Observed.{Greeting, no-header, own-header, both-headers, startTold, Pinging, no-ping, pinged, Event, opens, finishes, aborts, puts, received, wrote, silent, unused, Seen, observe}
 use Rattle.history.specs.Log.{Call, start, open-session, put, finish, turn, grant, abort, close, shutdown, lost, receive, Entry}
 use Rattle.history.specs.Log as log
@@ -27,8 +27,8 @@ pub record Line : Type 0 where
   pub greeting : Greeting
   pub pinging : Pinging
 
-abbrev pub withOver : Line → Line
-withOver l = record { over = true; greeting = l .greeting; pinging = l .pinging }
+abbrev pub lineOver : Line → Line
+lineOver l = record { over = true; greeting = l .greeting; pinging = l .pinging }
 
 abbrev pub withGreeting : Greeting → Line → Line
 withGreeting g l = record { over = l .over; greeting = g; pinging = l .pinging }
@@ -47,17 +47,17 @@ lineByCall l (grant n amount room) = l
 lineByCall l (abort n partial room) = l
 lineByCall l (close n room) = l
 lineByCall l (log.ping cookie room) = withPinging (pinged cookie) l
-lineByCall l (shutdown room) = withOver l
-lineByCall l lost = withOver l
+lineByCall l (shutdown room) = lineOver l
+lineByCall l lost = lineOver l
 lineByCall l (receive input room) = l
 
 -- and so do a Shutdown or an Error taken
 abbrev pub lineByMessage : Line → Message → Line
 lineByMessage l (msg.NoOperation n) = l
-lineByMessage l (msg.Shutdown n) = withOver l
+lineByMessage l (msg.Shutdown n) = lineOver l
 lineByMessage l (msg.Ping k) = l
 lineByMessage l (msg.PingAck k) = withPinging no-ping l
-lineByMessage l (msg.Error n) = withOver l
+lineByMessage l (msg.Error n) = lineOver l
 lineByMessage l (msg.IncrementRation s i n) = l
 lineByMessage l (msg.Abort p i n) = l
 lineByMessage l (msg.Close i) = l
@@ -67,14 +67,14 @@ lineByMessage l (msg.Data o c e a i n) = l
 abbrev pub lineByReport : Line → Call → Report → Line
 lineByReport l k done = lineByCall l k
 lineByReport l k (served n) = l
-lineByReport l k (header far) = withGreeting (both-headers far) l
+lineByReport l k (header-received far) = withGreeting (both-headers far) l
 lineByReport l k (message m late) = lineByMessage l m
 
 -- a refused call changes nothing, except that a refusal from 20 up makes the connection over
 abbrev pub lineByAnswer : Line → Call → Result Report → Line
 lineByAnswer l k (ok r) = lineByReport l k r
 lineByAnswer l k (refused n) = l
-lineByAnswer l k (violation n) = withOver l
+lineByAnswer l k (violation n) = lineOver l
 
 abbrev pub lineAfter : Line → Entry → Line
 lineAfter l e = lineByAnswer l (e .call) (e .answer)
@@ -107,7 +107,7 @@ inScope n f (of-session i m) = only n i (f m)
 abbrev pub reported : ℕ → Call → Report → List Event
 reported n k done = asked n k
 reported n k (served i) = []
-reported n k (header far) = []
+reported n k (header-received far) = []
 reported n k (message m late) = inScope n received (scope m)
 
 -- a message that is written, as the reader reads it
@@ -146,15 +146,15 @@ askedOf (shutdown room) = 0
 askedOf lost = 0
 askedOf (receive input room) = 0
 
-abbrev pub numberIn : Scope → ℕ
-numberIn whole = 0
-numberIn (of-session i m) = i
+abbrev pub sessionIn : Scope → ℕ
+sessionIn whole = 0
+sessionIn (of-session i m) = i
 
 abbrev pub reportedOf : Call → Report → ℕ
 reportedOf k done = askedOf k
 reportedOf k (served n) = n
-reportedOf k (header far) = 0
-reportedOf k (message m late) = numberIn (scope m)
+reportedOf k (header-received far) = 0
+reportedOf k (message m late) = sessionIn (scope m)
 
 abbrev pub concerned : Call → Result Report → ℕ
 concerned k (ok p) = reportedOf k p

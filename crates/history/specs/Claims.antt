@@ -28,7 +28,7 @@ use Rattle.protocol.specs.Slot.{queueSize, turnRoom}
 use Rattle.protocol.specs.Queue.{slot}
 use Rattle.protocol.specs.Message.{numbered, Scope, whole, of-session, scope}
 use Rattle.protocol.specs.Connection.{at}
-use Rattle.protocol.specs.Judge.{Report, done, served, header, message, Out}
+use Rattle.protocol.specs.Judge.{Report, done, served, header-received, message, Output}
 use Rattle.protocol.specs.Call.{otherEnd}
 use Rattle.laws.specs.Room.{overlaid}
 use Rattle.protocol.specs.Observed.{Pinging, greeted, awaits, Sending, silent, sending, isReady, anyLapse, ends, established, dueData, lateFor, mayArrive, wrongNumber}
@@ -38,7 +38,7 @@ use Rattle.history.specs.Log.{Call, start, open-session, put, finish, tu
 use Rattle.history.specs.Log as log
 use Rattle.history.specs.Account.{Account, lineAfter, events, concerned, askedOf, farOf, observed, blankAccount}
 use Rattle.history.specs.Answers.{localAnswer, isLocal, gateAnswer}
-use Rattle.history.specs.Meant.{headerDue, meantBy, ReadAs, mayGo}
+use Rattle.history.specs.Meant.{headerDue, meantBy, ReadInOrder, mayGo}
 use Rattle.history.specs.Sums.{summed}
 use Rattle.history.specs.Fates.{fateTold}
 
@@ -182,7 +182,7 @@ errorBytes (stage.Up r far) own = 8 ∷ 0 ∷ 0 ∷ 0 ∷ []
 abbrev pub takesInput : Result Report → Bool
 takesInput (ok done) = false
 takesInput (ok (served n)) = false
-takesInput (ok (header far)) = true
+takesInput (ok (header-received far)) = true
 takesInput (ok (message m late)) = true
 takesInput (refused n) = false
 takesInput (violation n) = false
@@ -276,7 +276,7 @@ pub record Awaiting (s : Setup) (a : List Entry) (room : ℕ) : Type 0 where
   pub roomy : 12 ≤ room
 
 abbrev pub headerAnswer : Result ℕ → Result Report
-headerAnswer (ok far) = ok (header far)
+headerAnswer (ok far) = ok (header-received far)
 headerAnswer (refused n) = refused n
 headerAnswer (violation n) = violation n
 
@@ -284,7 +284,7 @@ headerAnswer (violation n) = violation n
 abbrev pub Stands : Setup → List ℕ → Entry → Report → Type 0
 Stands s input e done = ⊥
 Stands s input e (served n) = ⊥
-Stands s input e (header far) = (readConnectionHeader input ≡ ok far) × (e .used ≡ 8) × (8 ≤ length input) × (e .start ≡ 0) × (e .end ≡ 0)
+Stands s input e (header-received far) = (readConnectionHeader input ≡ ok far) × (e .used ≡ 8) × (8 ≤ length input) × (e .start ≡ 0) × (e .end ≡ 0)
 Stands s input e (message m late) =
     (readMessage (otherEnd (s .role)) input ≡ ok m) × (e .used ≡ 4 + bodyLength m) × (4 + bodyLength m ≤ length input)
     × (e .start ≡ 4) × (e .end ≡ 4 + bodyLength m)
@@ -308,7 +308,7 @@ pub record ReceiveReads (s : Setup) (log : List Entry) : Type 0 where
 abbrev pub accountBefore : Setup → List Entry → Entry → Account
 accountBefore s a e = observed s (concerned (e .call) (e .answer)) a
 
-abbrev pub meant : Setup → List Entry → Entry → List Out
+abbrev pub meant : Setup → List Entry → Entry → List Output
 meant s a e = meantBy s (accountBefore s a e) (e .call) (e .answer)
 
 -- a cookie has the 16 bits of its place in the message
@@ -328,7 +328,7 @@ Fitting (receive input room) = Unit {0}
 
 abbrev pub ReadsBack : Setup → List Entry → Type 0
 ReadsBack s log =
-    (a c : List Entry) (e : Entry) → log ≡ a ++ (e ∷ c) → Fitting (e .call) → ReadAs (s .role) (e .wrote) (meant s a e)
+    (a c : List Entry) (e : Entry) → log ≡ a ++ (e ∷ c) → Fitting (e .call) → ReadInOrder (s .role) (e .wrote) (meant s a e)
 
 abbrev pub SendsAllowed : Setup → List Entry → Type 0
 SendsAllowed s log = (a c : List Entry) (e : Entry) → log ≡ a ++ (e ∷ c) → Every (mayGo s (accountBefore s a e) e) (meant s a e)

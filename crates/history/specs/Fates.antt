@@ -6,7 +6,7 @@ use Rattle.laws.specs.Runs.{fold}
 use Rattle.wire.specs.declared.Message.{Message}
 use Rattle.wire.specs.declared.Message.the-variants as msg
 use Rattle.state.specs.declared.Setup.{Setup}
-use Rattle.protocol.specs.Judge.{Report, done, served, header, message}
+use Rattle.protocol.specs.Judge.{Report, done, served, header-received, message}
 use Rattle.protocol.specs.Asked.{isUnsent}
 use Rattle.protocol.specs.Fate.{Fate, no-fate, fateAfter, Ended, not-ended, by-shutdown, by-error, by-own-shutdown, by-lost-line, fateEnded}
 use Rattle.history.specs.Log.{Call, start, open-session, put, finish, turn, grant, abort, close, ping, shutdown, lost, receive, Entry}
@@ -44,7 +44,7 @@ endedByMessage (msg.Data o c e a i n) = not-ended
 abbrev pub endTold : Call → Result Report → Ended
 endTold k (ok done) = endedByCall k
 endTold k (ok (served n)) = not-ended
-endTold k (ok (header far)) = not-ended
+endTold k (ok (header-received far)) = not-ended
 endTold k (ok (message m late)) = endedByMessage m
 endTold k (refused n) = not-ended
 endTold k (violation n) = by-lost-line

@@ -14,7 +14,7 @@ use Rattle.wire.specs.Message.{isClient, isServer, bodyLength, readMessage}
 use Rattle.wire.specs.Connection.{readConnectionHeader}
 use Rattle.state.specs.declared.Setup.{Setup}
 use Rattle.protocol.specs.Message.{SessionMessage, increment-of, abort-of, close-of, Scope, whole, of-session, scope, numbered}
-use Rattle.protocol.specs.Judge.{Report, done, served, header, message, Out, own-header, sent}
+use Rattle.protocol.specs.Judge.{Report, done, served, header-received, message, Output, own-header, sent}
 use Rattle.protocol.specs.Observed.{Greeting, no-header, own-header, both-headers, greeted, Seen, repliesTo, dueData, mayWrite, fromRole}
 use Rattle.protocol.specs.Asked.{isUnsent}
 use Rattle.history.specs.Log.{Call, start, open-session, put, finish, turn, grant, abort, close, ping, shutdown, lost, receive, Entry}
@@ -57,11 +57,11 @@ answeredIn r v (of-session i m) = repliesTo r (v .standing) m
 abbrev pub meantFor : Role → Call → Report → Seen → List SessionMessage
 meantFor r k done v = askedToSend k v
 meantFor r k (served n) v = dueData (v .sends) ∷ []
-meantFor r k (header far) v = []
+meantFor r k (header-received far) v = []
 meantFor r k (message m late) v = answeredIn r v (scope m)
 
 -- of the connection as a whole: a client's start is its header, a ping Ping, a shutdown Shutdown
-abbrev pub askedOfAll : ℕ → Call → List Out
+abbrev pub askedOfAll : ℕ → Call → List Output
 askedOfAll own (start room) = own-header own ∷ []
 askedOfAll own (open-session n) = []
 askedOfAll own (put n bytes) = []
@@ -76,7 +76,7 @@ askedOfAll own lost = []
 askedOfAll own (receive input room) = []
 
 -- a Ping is answered with a PingAck of its cookie
-abbrev pub answerOfAll : Message → List Out
+abbrev pub answerOfAll : Message → List Output
 answerOfAll (msg.NoOperation n) = []
 answerOfAll (msg.Shutdown n) = []
 answerOfAll (msg.Ping k) = sent (msg.PingAck k) ∷ []
@@ -89,14 +89,14 @@ answerOfAll (msg.Acknowledgment i) = []
 answerOfAll (msg.Data o c e a i n) = []
 
 -- a server answers the first header with its own
-abbrev pub meantOfAll : Setup → Call → Report → List Out
+abbrev pub meantOfAll : Setup → Call → Report → List Output
 meantOfAll s k done = askedOfAll (s .header) k
 meantOfAll s k (served n) = []
-meantOfAll s k (header far) = pick (isServer (s .role)) (own-header (s .header) ∷ []) []
+meantOfAll s k (header-received far) = pick (isServer (s .role)) (own-header (s .header) ∷ []) []
 meantOfAll s k (message m late) = answerOfAll m
 
 -- a violation is answered with Error, after our header where that was not sent; a refusal below 20 means nothing
-abbrev pub meantBy : Setup → Account → Call → Result Report → List Out
+abbrev pub meantBy : Setup → Account → Call → Result Report → List Output
 meantBy s a k (ok p) = meantOfAll s k p ++ map (λ m. sent (numbered (concerned k (ok p)) m)) (meantFor (s .role) k p (a .seen))
 meantBy s a k (refused n) = []
 meantBy s a k (violation n) = pick (ungreeted (a .line .greeting)) (own-header (s .header) ∷ []) [] ++ (sent (msg.Error 0) ∷ [])
@@ -104,10 +104,10 @@ meantBy s a k (violation n) = pick (ungreeted (a .line .greeting)) (own-header (
 -- ---- what is read
 
 -- the other end reads the bytes as these, one after another, and nothing is left over
-unfoldable pub ReadAs : Role → List ℕ → List Out → Type 0
-ReadAs from bytes [] = bytes ≡ []
-ReadAs from bytes (own-header n ∷ outs) = (readConnectionHeader bytes ≡ ok n) × ReadAs from (drop 8 bytes) outs
-ReadAs from bytes (sent m ∷ outs) = (readMessage from bytes ≡ ok m) × ReadAs from (drop (4 + bodyLength m) bytes) outs
+unfoldable pub ReadInOrder : Role → List ℕ → List Output → Type 0
+ReadInOrder from bytes [] = bytes ≡ []
+ReadInOrder from bytes (own-header n ∷ outs) = (readConnectionHeader bytes ≡ ok n) × ReadInOrder from (drop 8 bytes) outs
+ReadInOrder from bytes (sent m ∷ outs) = (readMessage from bytes ≡ ok m) × ReadInOrder from (drop (4 + bodyLength m) bytes) outs
 
 -- ---- what may be written
 
@@ -115,7 +115,7 @@ ReadAs from bytes (sent m ∷ outs) = (readMessage from bytes ≡ ok m) × ReadA
 abbrev pub isPing : ℕ → Result Report → Bool
 isPing k (ok done) = false
 isPing k (ok (served n)) = false
-isPing k (ok (header far)) = false
+isPing k (ok (header-received far)) = false
 isPing k (ok (message (msg.NoOperation n) late)) = false
 isPing k (ok (message (msg.Shutdown n) late)) = false
 isPing k (ok (message (msg.Ping j) late)) = eqb j k
@@ -138,7 +138,7 @@ isViolation (violation n) = true
 abbrev pub greets : Role → Result Report → Bool
 greets r (ok done) = isClient r
 greets r (ok (served n)) = false
-greets r (ok (header far)) = isServer r
+greets r (ok (header-received far)) = isServer r
 greets r (ok (message m late)) = false
 greets r (refused n) = false
 greets r (violation n) = isServer r
@@ -166,6 +166,6 @@ messageMayGo s a e m (of-session i x) =
     && fromRole (s .role) x && mayWrite (s .role) (farOf (a .line)) (seenBefore s (concerned (e .call) (e .answer)) a e) x
 
 -- nothing goes on a connection that is over, and our header goes once and in its turn
-abbrev pub mayGo : Setup → Account → Entry → Out → Bool
+abbrev pub mayGo : Setup → Account → Entry → Output → Bool
 mayGo s a e (own-header n) = not (a .line .over) && ungreeted (a .line .greeting) && greets (s .role) (e .answer)
 mayGo s a e (sent m) = not (a .line .over) && messageMayGo s a e m (scope m)

@@ -20,7 +20,7 @@ use Rattle.state.specs.declared.Session.{Session}
 use Rattle.protocol.specs.Message.{SessionMessage, data-of, increment-of, abort-of, close-of, acknowledgment-of}
 use Rattle.protocol.specs.Session.{afterData, follow, settled}
 use Rattle.protocol.specs.Receipt.{dataTo, incrementTo, abortTo, closeTo, aborted, arriving, other, acceptable, receipt}
-use Rattle.protocol.specs.Ask.{due, ready, readyIn, turnOf, turnAsk}
+use Rattle.protocol.specs.Ask.{due, readySession, readyIn, turnOf, turnAsk}
 use Rattle.protocol.specs.Connection.{placed}
 use Rattle.protocol.specs.Observed.{ifSo, wrongOf, wrongNumber, ends, Seen, established, permitsTheirs, mayOpen, mayArrive}
 use Rattle.protocol.proofs.Plans.{Exactly}
@@ -137,8 +137,8 @@ receipt-exact r own far x s close-of p q = other-exact r own far x s close-of (x
 receipt-exact r own far x s acknowledgment-of p q = other-exact r own far x s acknowledgment-of (x .sides) refl
 
 -- a turn serves a session exactly where it is ready
-pub turn-exact : (own far : Ration) (x : Session) → Exactly (ready x) 9 (turnAsk own far x)
-unfolding turnAsk ready
+pub turn-exact : (own far : Ration) (x : Session) → Exactly (readySession x) 9 (turnAsk own far x)
+unfolding turnAsk readySession
 turn-exact own far x = go (x .sides)
   where
     go : (z : Sides) → Exactly (readyIn x z) 9 (turnOf own far x z)

@@ -23,7 +23,7 @@ use Rattle.state.specs.declared.Outcome.the-variants as outcome
 use Rattle.state.specs.declared.Session.{Session}
 use Rattle.protocol.specs.Message.{SessionMessage, data-of, increment-of, abort-of, close-of, acknowledgment-of}
 use Rattle.state.specs.With.{withSides}
-use Rattle.protocol.specs.Session.{afterData, follow, settled, received as spent, incremented}
+use Rattle.protocol.specs.Session.{afterData, follow, settled, inboundSpent as spent, incremented}
 use Rattle.protocol.specs.Receipt.{Taken, quietly, replying, aborted, dataTo, incrementTo, abortTo, closeTo, arriving, other, acceptable, accepted, receipt}
 use Rattle.protocol.specs.Ask.{sends, positive}
 use Rattle.protocol.specs.Observed.{received, Sending, silent, sending, anyLeft, isReady, lapses, sendsAfter, endsAfter, counted, inboundAfter, Ends, ends, ours, theirs, withIncrement, observe, established, unfinished, permitsOurs}

@@ -14,7 +14,7 @@ use Rattle.protocol.specs.Message.{Scope, whole, of-session, scope}
 use Rattle.protocol.specs.Receipt.{receipt}
 use Rattle.protocol.specs.Ask.{turnAsk}
 use Rattle.protocol.specs.Connection.{at, roleOf, ownStart, farStart}
-use Rattle.protocol.specs.Judge.{served, message, sent, Effect, Decision, refuse, violate, accept, with-session, breach, judgeWhole, judgeScope, judge}
+use Rattle.protocol.specs.Judge.{served, message, sent, Effect, Decision, refuse, violate, accept, setting-session, breach, judgeWhole, judgeScope, judge}
 use Rattle.protocol.specs.Call.{nextReady, turnRule}
 use Rattle.protocol.specs.Result.{usedBy, bytesOf}
 use Rattle.protocol.proofs.Plans.{Takes, takes-then, takes-all, takes-map, stops-all, settled}
@@ -31,7 +31,7 @@ unfolding turnRule
 turn-marks c queue room _ _ _ _ _ =
     let n = nextReady c in
     let p = turnAsk (ownStart c) (farStart c) (at c n) in
-    takes-then (Marks n) (with-session c n n (served n)) p (takes-all (λ t. record { number = refl; last = refl; report = refl }) p)
+    takes-then (Marks n) (setting-session c n n (served n)) p (takes-all (λ t. record { number = refl; last = refl; report = refl }) p)
 
 -- ---- a receive reports the message that it judges
 
@@ -57,7 +57,7 @@ scope-tells c m whole = settled (Tells m) (breach c) accept (judgeWhole c m) (st
     (takes-map (λ e h. (false, h)) (judgeWhole c m) (whole-reports c m))
 scope-tells c m (of-session i x) =
     let p = receipt (roleOf (c .stage)) (ownStart c) (farStart c) (at c i) x in
-    settled (Tells m) (breach c) (λ t. accept (with-session c i (c .last) (message m (t .late)) t)) p (stops-all (λ n. tt) p) (takes-all (λ t. (t .late, refl)) p)
+    settled (Tells m) (breach c) (λ t. accept (setting-session c i (c .last) (message m (t .late)) t)) p (stops-all (λ n. tt) p) (takes-all (λ t. (t .late, refl)) p)
 
 pub judge-tells : (c : Connection) (m : Message) → Tells m (judge c m)
 unfolding judge

@@ -31,7 +31,7 @@ use Rattle.protocol.specs.Receipt.{Taken}
 use Rattle.protocol.specs.Judge.{Effect}
 use Rattle.protocol.specs.Message.{data-of}
 use Rattle.protocol.specs.Session.{afterData}
-use Rattle.protocol.specs.Ask.{smaller, lastData, sends, sending as sendingOf, turnOf, turnAsk, ready, readyIn}
+use Rattle.protocol.specs.Ask.{sendable, lastData, sends, sending as sendingOf, turnOf, turnAsk, readySession, readyIn}
 use Rattle.protocol.specs.Observed.{sending, withData, dueData, Seen, ends, ours, mayOpen, rationOf, permitsOurs}
 use Rattle.protocol.proofs.Plans.{Takes, passes}
 use Rattle.protocol.proofs.Views.{endsOf, sendsOf, look, Formed, seen-path, pairs, paired, due-length}
@@ -40,11 +40,11 @@ use Rattle.protocol.proofs.Sound.{CarriesData, Sound}
 
 -- ---- the bytes that go and those that stay
 
-pub smaller-waiting : (w : ℕ) (r : Ration) → smaller w r ≤ w
+pub smaller-waiting : (w : ℕ) (r : Ration) → sendable w r ≤ w
 smaller-waiting w (ration.Finite n) = omega arith
 smaller-waiting w ration.Endless = omega arith
 
-smaller-allowed : (w : ℕ) (r : Ration) → allows r (smaller w r) ≡ true
+smaller-allowed : (w : ℕ) (r : Ration) → allows r (sendable w r) ≡ true
 smaller-allowed w (ration.Finite n) = le-leb (min w n) n (omega arith)
 smaller-allowed w ration.Endless = refl
 
@@ -133,7 +133,7 @@ turn-sound r own far x s f ho hf long = go (x .sides) refl
     go : (z : Sides) → x .sides ≡ z → Takes (λ t. Sound r own far x s [] s (turnSlot (x .waiting) (x .waiting - t .session .waiting) s) true t) (turnOf own far x z)
     go sides.Idle e = tt
     go (sides.Opening b) e =
-        let n = smaller (x .waiting) far in
+        let n = sendable (x .waiting) far in
         let k = smaller-waiting (x .waiting) far in
         let small = f .waiting in
         let client = and-first (isClient r) true (rw e at (f .place)) in
@@ -166,7 +166,7 @@ turn-sound r own far x s f ho hf long = go (x .sides) refl
         }
     go (sides.Live side.Open t) e = λ due.
         let open-pair : pairs r t side.Open ≡ true = sym (ap (paired r) e) ∙ f .pair in
-        let n = smaller (x .waiting) (x .outbound) in
+        let n = sendable (x .waiting) (x .outbound) in
         let k = smaller-waiting (x .waiting) (x .outbound) in
         let small = f .waiting in
         record {
@@ -210,7 +210,7 @@ turn-sends own far x s long = go (x .sides) refl
     size : length (take (x .waiting) s) ≡ x .waiting
     size = length-take-le (x .waiting) s long
 
-    sent : (u : Bool) (q : Ration) → data-of (smaller (x .waiting) q) u false (lastData x (smaller (x .waiting) q)) false ∷ [] ≡ dueData (sending u (take (x .waiting) s) q (x .finish)) ∷ []
+    sent : (u : Bool) (q : Ration) → data-of (sendable (x .waiting) q) u false (lastData x (sendable (x .waiting) q)) false ∷ [] ≡ dueData (sending u (take (x .waiting) s) q (x .finish)) ∷ []
     sent u q = rw (size, due-length (x .waiting) q)
 
     go : (z : Sides) → x .sides ≡ z → Takes (λ t. t .sent ≡ dueData (look far x s .sends) ∷ []) (turnOf own far x z)
@@ -223,9 +223,9 @@ turn-sends own far x s long = go (x .sides) refl
     go (sides.Live side.Ended t) e = tt
 
 -- a turn that finds its session not ready is refused with 9
-pub turn-stops : {B : Type 0} (bad : ℕ → B) (good : Effect → B) (f : Taken → Effect) (own far : Ration) (x : Session) → ready x ≡ false
+pub turn-stops : {B : Type 0} (bad : ℕ → B) (good : Effect → B) (f : Taken → Effect) (own far : Ration) (x : Session) → readySession x ≡ false
     → settle bad good (andThen f (turnAsk own far x)) ≡ bad 9
-unfolding turnAsk ready settle
+unfolding turnAsk readySession settle
 turn-stops bad good f own far x h = go (x .sides) h
   where
     go : (z : Sides) → readyIn x z ≡ false → settle bad good (andThen f (turnOf own far x z)) ≡ bad 9
@@ -236,16 +236,16 @@ turn-stops bad good f own far x h = go (x .sides) h
     go (sides.Live side.Ended t) e = refl
 
 -- and one that finds it ready is taken, with all that holds where it takes
-pub turn-goes : {B : Type 0} (bad : ℕ → B) (good : Effect → B) (f : Taken → Effect) (own far : Ration) (x : Session) (P : Taken → Type 0) → ready x ≡ true
+pub turn-goes : {B : Type 0} (bad : ℕ → B) (good : Effect → B) (f : Taken → Effect) (own far : Ration) (x : Session) (P : Taken → Type 0) → readySession x ≡ true
     → Takes P (turnAsk own far x) → (t : Taken) × (settle bad good (andThen f (turnAsk own far x)) ≡ good (f t)) × P t
-unfolding turnAsk ready settle
+unfolding turnAsk readySession settle
 turn-goes bad good f own far x P h k = go (x .sides) h k
   where
     go : (z : Sides) → readyIn x z ≡ true → Takes P (turnOf own far x z) → (t : Taken) × (settle bad good (andThen f (turnOf own far x z)) ≡ good (f t)) × P t
     go sides.Idle e k = absurd (false≢true e)
     go (sides.Opening b) e k = (_, refl, k)
     go (sides.Live side.Open t) e k =
-        let p = sendingOf x false t (x .outbound) (x .inbound) (smaller (x .waiting) (x .outbound)) in
+        let p = sendingOf x false t (x .outbound) (x .inbound) (sendable (x .waiting) (x .outbound)) in
         (_, passes bad good 9 (andThen f p) (ap not e), k (ap not e))
     go (sides.Live side.Finished t) e k = absurd (false≢true e)
     go (sides.Live side.Ended t) e k = absurd (false≢true e)

@@ -26,7 +26,7 @@ use Rattle.state.specs.declared.Ping.{Ping}
 use Rattle.state.specs.declared.Ping.the-variants as ping
 use Rattle.protocol.specs.Slot.{slotSize}
 use Rattle.protocol.specs.Session.{afterData}
-use Rattle.protocol.specs.Ask.{sends, positive, smaller, due, ready, readyIn}
+use Rattle.protocol.specs.Ask.{sends, positive, sendable, due, readySession, readyIn}
 use Rattle.protocol.specs.Connection.{exchanged, farNumber, placed, sessionFormed}
 use Rattle.protocol.specs.Judge.{matches}
 use Rattle.protocol.specs.Observed.{Greeting, no-header, own-header, both-headers, greeted, startTold, Pinging, no-ping, pinged, awaits, Sending, silent, sending, isEmpty, anyLeft, isReady, Ends, unused, ends, Seen, dataLeaves, dueLength}
@@ -96,11 +96,11 @@ any-left (ration.Finite zero) = refl
 any-left (ration.Finite (suc n)) = ap not (eqb·suc-zero n) ∙ sym (lt-ltb 0 (suc n) (omega arith))
 any-left ration.Endless = refl
 
-pub due-length : (w : ℕ) (r : Ration) → dueLength w r ≡ smaller w r
+pub due-length : (w : ℕ) (r : Ration) → dueLength w r ≡ sendable w r
 unfolding pick
 due-length w (ration.Finite n) = go (leb w n) refl
   where
-    go : (b : Bool) → leb w n ≡ b → pick b w n ≡ smaller w (ration.Finite n)
+    go : (b : Bool) → leb w n ≡ b → pick b w n ≡ sendable w (ration.Finite n)
     go true e = let h : w ≤ n = leb-true w n e in omega arith
     go false e = let h : n < w = leb-false w n e in omega arith
 due-length w ration.Endless = refl
@@ -129,8 +129,8 @@ due-is w s r f h = rw (empty-take w s h, any-left r) (go (eqb w 0))
     go true = refl
     go false = flat (positive r)
 
-pub ready-look : (far : Ration) (x : Session) (s : List ℕ) → x .waiting ≤ length s → ready x ≡ isReady (look far x s .sends)
-unfolding ready
+pub ready-look : (far : Ration) (x : Session) (s : List ℕ) → x .waiting ≤ length s → readySession x ≡ isReady (look far x s .sends)
+unfolding readySession
 ready-look far x s h = go (x .sides)
   where
     go : (z : Sides) → readyIn x z ≡ isReady (sendsOf far z (take (x .waiting) s) (x .outbound) (x .finish))

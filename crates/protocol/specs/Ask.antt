@@ -141,13 +141,13 @@ readyIn x (sides.Live side.Open theirs) = due (x .waiting) (x .outbound) (x .fin
 readyIn x (sides.Live side.Finished theirs) = false
 readyIn x (sides.Live side.Ended theirs) = false
 
-unfoldable pub ready : Session → Bool
-ready x = readyIn x (x .sides)
+unfoldable pub readySession : Session → Bool
+readySession x = readyIn x (x .sides)
 
 -- the smaller of waiting and ration
-abbrev pub smaller : ℕ → Ration → ℕ
-smaller waiting (ration.Finite n) = min waiting n
-smaller waiting ration.Endless = waiting
+abbrev pub sendable : ℕ → Ration → ℕ
+sendable waiting (ration.Finite n) = min waiting n
+sendable waiting ration.Endless = waiting
 
 -- eof exactly if finish was asked and nothing remains
 abbrev pub lastData : Session → ℕ → Bool
@@ -162,10 +162,10 @@ sending x opens theirs outbound inbound n =
 
 abbrev pub turnOf : Ration → Ration → Session → Sides → Plan Taken
 turnOf own far x sides.Idle = stop 9
-turnOf own far x (sides.Opening b) = sending x true side.Open far own (smaller (x .waiting) far)
+turnOf own far x (sides.Opening b) = sending x true side.Open far own (sendable (x .waiting) far)
 turnOf own far x (sides.Live side.Open theirs) =
     check (not (due (x .waiting) (x .outbound) (x .finish))) 9
-    (sending x false theirs (x .outbound) (x .inbound) (smaller (x .waiting) (x .outbound)))
+    (sending x false theirs (x .outbound) (x .inbound) (sendable (x .waiting) (x .outbound)))
 turnOf own far x (sides.Live side.Finished theirs) = stop 9
 turnOf own far x (sides.Live side.Ended theirs) = stop 9
 

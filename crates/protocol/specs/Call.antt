@@ -19,9 +19,9 @@ use Rattle.state.specs.declared.Connection.{Connection}
 use Rattle.protocol.specs.Slot.{queueSize, turnRoom}
 use Rattle.protocol.specs.Plan.{Plan, check, take, settle, andThen}
 use Rattle.protocol.specs.Receipt.{Taken}
-use Rattle.protocol.specs.Ask.{openAsk, putAsk, finishAsk, grantAsk, abortAsk, closeAsk, turnAsk, ready}
+use Rattle.protocol.specs.Ask.{openAsk, putAsk, finishAsk, grantAsk, abortAsk, closeAsk, turnAsk, readySession}
 use Rattle.protocol.specs.Connection.{own-shutdown, line-lost, at, roleOf, exchanged, ownStart, farStart, wellFormed}
-use Rattle.protocol.specs.Judge.{done, served, header, Out, own-header, sent, Effect, Decision, refuse, accept, with-stage, with-ping, with-session, ends-by, breach, judge}
+use Rattle.protocol.specs.Judge.{done, served, header-received, Output, own-header, sent, Effect, Decision, refuse, accept, setting-stage, setting-ping, setting-session, ends-by, breach, judge}
 
 -- ---- the checks that calls share
 
@@ -46,7 +46,7 @@ numberIn n rest = check (leb 128 n) 3 rest
 
 -- what is asked of the session of a number
 abbrev pub asking : Connection → ℕ → Plan Taken → Plan Effect
-asking c n p = andThen (with-session c n (c .last) done) p
+asking c n p = andThen (setting-session c n (c .last) done) p
 
 -- ---- the local calls
 
@@ -61,7 +61,7 @@ startRule c room =
     running c
     (roomFor 8 room
     (check (isServer (roleOf (c .stage))) 4
-    (check (not (isFresh (c .stage))) 5 (take (with-stage c stage.Started done (own-header (c .own) ∷ []))))))
+    (check (not (isFresh (c .stage))) 5 (take (setting-stage c stage.Started done (own-header (c .own) ∷ []))))))
 
 unfoldable pub openRule : Connection → ℕ → Plan Effect
 openRule c n = upAndRunning c (numberIn n (asking c n (openAsk (roleOf (c .stage)) (at c n))))
@@ -74,10 +74,10 @@ finishRule c n = upAndRunning c (numberIn n (asking c n (finishAsk (at c n))))
 
 -- the first ready number after the last one served by a turn, going round
 abbrev pub nextReady : Connection → ℕ
-nextReady c = nearest (λ n. ready (at c n)) (c .last)
+nextReady c = nearest (λ n. readySession (at c n)) (c .last)
 
 abbrev pub serving : Connection → ℕ → Plan Effect
-serving c n = andThen (with-session c n n (served n)) (turnAsk (ownStart c) (farStart c) (at c n))
+serving c n = andThen (setting-session c n n (served n)) (turnAsk (ownStart c) (farStart c) (at c n))
 
 unfoldable pub turnRule : Connection → ℕ → ℕ → Plan Effect
 turnRule c queue room = upAndRunning c (roomFor turnRoom room (queueOf queue (serving c (nextReady c))))
@@ -101,7 +101,7 @@ unfoldable pub pingRule : Connection → ℕ → ℕ → Plan Effect
 pingRule c cookie room =
     upAndRunning c
     (roomFor 4 room
-    (check (isOutstanding (c .ping)) 13 (take (with-ping c (ping.Outstanding cookie) done (sent (msg.Ping cookie) ∷ [])))))
+    (check (isOutstanding (c .ping)) 13 (take (setting-ping c (ping.Outstanding cookie) done (sent (msg.Ping cookie) ∷ [])))))
 
 -- server
 unfoldable pub shutdownRule : Connection → ℕ → Plan Effect
@@ -119,12 +119,12 @@ otherEnd role.Client = role.Server
 otherEnd role.Server = role.Client
 
 -- a good first header makes a server write its own
-abbrev pub answering : Role → ℕ → List Out
+abbrev pub answering : Role → ℕ → List Output
 answering role.Client own = []
 answering role.Server own = own-header own ∷ []
 
 abbrev pub headerTaken : Connection → Role → Result ℕ → Decision
-headerTaken c r (ok far) = accept (with-stage c (stage.Up r far) (header far) (answering r (c .own)))
+headerTaken c r (ok far) = accept (setting-stage c (stage.Up r far) (header-received far) (answering r (c .own)))
 headerTaken c r (refused n) = refuse n
 headerTaken c r (violation n) = breach c n
 

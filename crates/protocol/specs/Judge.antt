@@ -21,13 +21,13 @@ use Rattle.protocol.specs.Connection.{Cause, shutdown-received, error-re
 pub data Report : Type 0 where
   done : Report
   served : ℕ → Report
-  header : ℕ → Report
+  header-received : ℕ → Report
   message : Message → Bool → Report
 
 -- what is written: our connection header, or a message
-pub data Out : Type 0 where
-  own-header : ℕ → Out
-  sent : Message → Out
+pub data Output : Type 0 where
+  own-header : ℕ → Output
+  sent : Message → Output
 
 -- whether the connection ends with the call
 pub data Ending : Type 0 where
@@ -43,13 +43,13 @@ pub record Effect : Type 0 where
   pub ping : Ping
   pub ending : Ending
   pub report : Report
-  pub outs : List Out
+  pub outs : List Output
 
 -- a violation carries how the connection ends by it, and its reply
 pub record Breach : Type 0 where
   pub code : ℕ
   pub cause : Cause
-  pub reply : List Out
+  pub reply : List Output
 
 pub data Decision : Type 0 where
   refuse : ℕ → Decision
@@ -59,7 +59,7 @@ pub data Decision : Type 0 where
 -- ---- effects
 
 -- no session changes
-abbrev pub effect : Connection → Stage → Ping → Ending → Report → List Out → Effect
+abbrev pub effect : Connection → Stage → Ping → Ending → Report → List Output → Effect
 effect c s p ending r outs =
     record {
       number = 0;
@@ -73,21 +73,21 @@ effect c s p ending r outs =
     }
 
 -- nothing changes but what is said
-abbrev pub unchanged : Connection → Report → List Out → Effect
+abbrev pub unchanged : Connection → Report → List Output → Effect
 unchanged c r outs = effect c (c .stage) (c .ping) goes-on r outs
 
-abbrev pub ends-by : Connection → Cause → Report → List Out → Effect
+abbrev pub ends-by : Connection → Cause → Report → List Output → Effect
 ends-by c cause r outs = effect c (c .stage) (c .ping) (ends cause) r outs
 
-abbrev pub with-ping : Connection → Ping → Report → List Out → Effect
-with-ping c p r outs = effect c (c .stage) p goes-on r outs
+abbrev pub setting-ping : Connection → Ping → Report → List Output → Effect
+setting-ping c p r outs = effect c (c .stage) p goes-on r outs
 
-abbrev pub with-stage : Connection → Stage → Report → List Out → Effect
-with-stage c s r outs = effect c s (c .ping) goes-on r outs
+abbrev pub setting-stage : Connection → Stage → Report → List Output → Effect
+setting-stage c s r outs = effect c s (c .ping) goes-on r outs
 
 -- what was taken for one session: the connection adds the number to what is written
-abbrev pub with-session : Connection → ℕ → ℕ → Report → Taken → Effect
-with-session c n last r t =
+abbrev pub setting-session : Connection → ℕ → ℕ → Report → Taken → Effect
+setting-session c n last r t =
     record {
       number = n;
       session = t .session;
@@ -112,7 +112,7 @@ commit c e =
 -- ---- the judging of a message
 
 -- a server that has not sent its header sends it before the Error; a client that is not started receives nothing
-abbrev pub errorAfter : Stage → ℕ → List Out
+abbrev pub errorAfter : Stage → ℕ → List Output
 errorAfter (stage.Fresh r) own = own-header own ∷ sent (msg.Error 0) ∷ []
 errorAfter stage.Started own = sent (msg.Error 0) ∷ []
 errorAfter (stage.Up r far) own = sent (msg.Error 0) ∷ []
@@ -131,7 +131,7 @@ judgeWhole c (msg.NoOperation n) = take (unchanged c (message (msg.NoOperation n
 judgeWhole c (msg.Shutdown n) = take (ends-by c shutdown-received (message (msg.Shutdown n) false) [])
 judgeWhole c (msg.Ping k) = take (unchanged c (message (msg.Ping k) false) (sent (msg.PingAck k) ∷ []))
 judgeWhole c (msg.PingAck k) =
-    check (not (matches (c .ping) k)) 28 (take (with-ping c ping.None (message (msg.PingAck k) false) []))
+    check (not (matches (c .ping) k)) 28 (take (setting-ping c ping.None (message (msg.PingAck k) false) []))
 judgeWhole c (msg.Error n) = take (ends-by c error-received (message (msg.Error n) false) [])
 judgeWhole c (msg.IncrementRation s i n) = stop 25
 judgeWhole c (msg.Abort p i n) = stop 25
@@ -142,7 +142,7 @@ judgeWhole c (msg.Data o k e a i n) = stop 25
 abbrev pub judgeScope : Connection → Message → Scope → Decision
 judgeScope c m whole = settle (breach c) accept (judgeWhole c m)
 judgeScope c m (of-session i s) =
-    settle (breach c) (λ t. accept (with-session c i (c .last) (message m (t .late)) t))
+    settle (breach c) (λ t. accept (setting-session c i (c .last) (message m (t .late)) t))
     (receipt (roleOf (c .stage)) (ownStart c) (farStart c) (at c i) s)
 
 unfoldable pub judge : Connection → Message → Decision

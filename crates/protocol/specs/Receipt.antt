@@ -18,7 +18,7 @@ use Rattle.protocol.specs.Plan.{Plan, stop, check, take}
 use Rattle.protocol.specs.Message.{SessionMessage, data-of, increment-of, abort-of, close-of, acknowledgment-of}
 use Rattle.state.specs.New.{blank}
 use Rattle.state.specs.With.{withSides, withRations}
-use Rattle.protocol.specs.Session.{Move, to, wrong, follow, afterData, dropped, settled, received, incremented}
+use Rattle.protocol.specs.Session.{Move, to, wrong, follow, afterData, dropped, settled, inboundSpent, incremented}
 
 -- the session after the message, the replies, and whether the message was late
 pub record Taken : Type 0 where
@@ -51,11 +51,11 @@ aborted false = outcome.MayRetry
 abbrev pub dataTo : Role → Session → ℕ → Bool → Side → Side → Plan Taken
 dataTo r x n close side.Ended theirs = lately (closed close (withSides (sides.Live side.Ended theirs) x))
 dataTo r x n close side.Finished theirs =
-    check (not (allows (x .inbound) n)) 26 (quietly (closed close (received n (withSides (sides.Live side.Finished theirs) x))))
+    check (not (allows (x .inbound) n)) 26 (quietly (closed close (inboundSpent n (withSides (sides.Live side.Finished theirs) x))))
 dataTo r x n true side.Open theirs =
-    check (not (allows (x .inbound) n)) 26 (replying r theirs (settled outcome.Complete (received n x)))
+    check (not (allows (x .inbound) n)) 26 (replying r theirs (settled outcome.Complete (inboundSpent n x)))
 dataTo r x n false side.Open theirs =
-    check (not (allows (x .inbound) n)) 26 (quietly (received n (withSides (sides.Live side.Open theirs) x)))
+    check (not (allows (x .inbound) n)) 26 (quietly (inboundSpent n (withSides (sides.Live side.Open theirs) x)))
 
 -- an increment that our finished or ended side gets is late and changes nothing
 abbrev pub incrementTo : Session → ℕ → Side → Side → Plan Taken

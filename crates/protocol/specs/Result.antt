@@ -16,7 +16,7 @@ use Rattle.state.specs.declared.Answer.the-variants as answer
 use Rattle.state.specs.declared.Called.{Called}
 use Rattle.protocol.specs.Plan.{Plan, settle}
 use Rattle.protocol.specs.Connection.{at, ended}
-use Rattle.protocol.specs.Judge.{Report, done, served, header, message, Out, own-header, sent, Effect, Decision, refuse, violate, accept, commit}
+use Rattle.protocol.specs.Judge.{Report, done, served, header-received, message, Output, own-header, sent, Effect, Decision, refuse, violate, accept, commit}
 use Rattle.protocol.specs.Queue.{slot, withSlot, putSlot, turnSlot}
 use Rattle.protocol.specs.Call.{startRule, openRule, putRule, finishRule, turnRule, grantRule, abortRule, closeRule, pingRule, shutdownRule, lostRule, receiveRule}
 
@@ -26,7 +26,7 @@ use Rattle.protocol.specs.Call.{startRule, openRule, putRule, finishRule
 abbrev pub answerAs : Answer → Result Report
 answerAs answer.Done = ok done
 answerAs (answer.Served n) = ok (served n)
-answerAs (answer.Header n) = ok (header n)
+answerAs (answer.Header n) = ok (header-received n)
 answerAs (answer.Message m late) = ok (message m late)
 answerAs (answer.Refused r) = refused (refusalNumber r)
 answerAs (answer.Violated v) = violation (violationNumber v)
@@ -57,28 +57,28 @@ calledAs r =
 abbrev pub usedBy : Report → ℕ
 usedBy done = 0
 usedBy (served n) = 0
-usedBy (header n) = 8
+usedBy (header-received n) = 8
 usedBy (message m late) = 4 + bodyLength m
 
 -- where in the input the payload starts and ends
 abbrev pub startOf : Report → ℕ
 startOf done = 0
 startOf (served n) = 0
-startOf (header n) = 0
+startOf (header-received n) = 0
 startOf (message m late) = 4
 
 abbrev pub endOf : Report → ℕ
 endOf done = 0
 endOf (served n) = 0
-endOf (header n) = 0
+endOf (header-received n) = 0
 endOf (message m late) = 4 + bodyLength m
 
 -- the bytes of what is written; `payload` holds those that follow a Data header
-abbrev pub bytesOf : List ℕ → Out → List ℕ
+abbrev pub bytesOf : List ℕ → Output → List ℕ
 bytesOf payload (own-header n) = connectionHeader n
 bytesOf payload (sent m) = wire.header m ++ take (bodyLength m) payload
 
-unfoldable pub bytesOfAll : List ℕ → List Out → List ℕ
+unfoldable pub bytesOfAll : List ℕ → List Output → List ℕ
 bytesOfAll payload [] = []
 bytesOfAll payload (o ∷ os) = bytesOf payload o ++ bytesOfAll payload os
 

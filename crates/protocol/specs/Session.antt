@@ -58,8 +58,8 @@ abbrev pub settled : Outcome → Session → Session
 settled new x = withOutcome (becomes (x .outcome) new) x
 
 -- n bytes of the inbound ration are spent
-abbrev pub received : ℕ → Session → Session
-received n x = withRations (x .outbound) (minus (x .inbound) n) x
+abbrev pub inboundSpent : ℕ → Session → Session
+inboundSpent n x = withRations (x .outbound) (minus (x .inbound) n) x
 
 -- the outbound ration has grown by n
 abbrev pub incremented : ℕ → Session → Session

@@ -137,7 +137,7 @@ fn with_room(
 
 // What a line behind the first asks: a call, or a print of what stands, the connection and its sessions or a slot of the queue.
 fn made_line(play: Play, line: &[u8], queue: &mut [u8], room: &mut [u8]) -> Play {
-    let asked = script_lines::read(line);
+    let asked = script_lines::command_of(line);
     match asked {
         Command::Call(asked, n) => return with_room(play, asked, line, queue, room, n),
         Command::State => show::state(play.connection),

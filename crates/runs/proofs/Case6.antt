@@ -8,7 +8,7 @@ use lib.ListN.{length}
 use Rattle.laws.specs.Runs.{Every}
 use Rattle.ration.specs.declared.Ration.the-variants as ration
 use Rattle.protocol.specs.Slot.{turnRoom}
-use Rattle.protocol.specs.Judge.{done, served, header}
+use Rattle.protocol.specs.Judge.{done, served, header-received}
 use Rattle.protocol.specs.Observed.{silent, sending}
 use Rattle.history.specs.Log.{Call, open-session, put, finish, Entry, log}
 use Rattle.history.specs.Account.{observed}
@@ -38,7 +38,7 @@ twice = asked ++ (turns ∷ turns ∷ [])
 abbrev entries : List Entry
 entries =
     taken starts done (0x4A ∷ 0x6D ∷ 0x75 ∷ 0x78 ∷ 0x01 ∷ 0x00 ∷ 0x08 ∷ 0x00 ∷ [])
-    ∷ greets far-header (header 4) []
+    ∷ greets far-header (header-received 4) []
     ∷ taken (open-session 5) done []
     ∷ taken (open-session 2) done []
     ∷ taken (put 5 abc) done []

@@ -33,7 +33,7 @@ use Rattle.protocol.specs.Receipt.{Taken}
 use Rattle.protocol.specs.Ask.{opened, openAsk, turnAsk}
 use Rattle.protocol.specs.Ask as ask
 use Rattle.protocol.specs.Connection.{at, wellFormed, allFormed, sessionFormed}
-use Rattle.protocol.specs.Judge.{done, served, Decision, refuse, accept, with-session}
+use Rattle.protocol.specs.Judge.{done, served, Decision, refuse, accept, setting-session}
 use Rattle.protocol.specs.Call.{nextReady, serving, openRule, turnRule}
 use Rattle.protocol.specs.Result.{bytesOfAll}
 use Rattle.protocol.proofs.Plans.{passes}
@@ -136,7 +136,7 @@ formed-serving own far ho hf = formed-runs (begun (fromHeader own) (fromHeader f
 -- ---- an open of an idle number is taken, and leaves it unsent
 
 abbrev opens : ℕ → ℕ → List Session → ℕ → ℕ → Decision
-opens own far xs last j = accept (with-session (connected own far xs last) j last done (record { session = unsent; sent = []; late = false }))
+opens own far xs last j = accept (setting-session (connected own far xs last) j last done (record { session = unsent; sent = []; late = false }))
 
 module _ (own far : ℕ) (xs : List Session) (last : ℕ) (queue : List ℕ) (j : ℕ) (w : wellFormed (connected own far xs last) ≡ true) (h : j < 128)
     (e : getD xs j blank ≡ blank) where
@@ -144,7 +144,7 @@ module _ (own far : ℕ) (xs : List Session) (last : ℕ) (queue : List ℕ) (j 
   unfolding openRule openAsk settle
   open-decided =
       passes refuse accept 14 _ (ap not w) ∙ passes refuse accept 3 _ (lt-leb 128 j h)
-      ∙ ap (λ (x : Session). settle refuse accept (andThen (with-session (connected own far xs last) j last done) (openAsk role.Client x))) e
+      ∙ ap (λ (x : Session). settle refuse accept (andThen (setting-session (connected own far xs last) j last done) (openAsk role.Client x))) e
 
   open-next : next (state own far xs last queue) (open-session j) ≡ state own far (set xs j unsent) last queue
   unfolding next
@@ -157,7 +157,7 @@ module _ (own far : ℕ) (xs : List Session) (last : ℕ) (queue : List ℕ) (j 
 -- ---- a turn serves the unsent number after the mark, and leaves it begun
 
 abbrev serves : ℕ → ℕ → List Session → ℕ → ℕ → Decision
-serves own far xs last i = accept (with-session (connected own far xs last) i i (served i) (begins (fromHeader own) (fromHeader far)))
+serves own far xs last i = accept (setting-session (connected own far xs last) i i (served i) (begins (fromHeader own) (fromHeader far)))
 
 abbrev pub served-entry : List ℕ → ℕ → Entry
 served-entry room i = taken (turn room) (served i) (0x90 ∷ i ∷ 0x00 ∷ 0x00 ∷ [])
@@ -168,15 +168,15 @@ emptied i queue = withSlot i (turnSlot 0 0 (slot i queue)) queue
 module _ (own far : ℕ) (xs : List Session) (last : ℕ) (queue : List ℕ) (i : ℕ) (room : List ℕ) (w : wellFormed (connected own far xs last) ≡ true) (h : i < 128)
     (e : getD xs i blank ≡ unsent) (hl : last < 128) (g : gap last i ≡ 1) (q : length queue ≡ queueSize) (r : turnRoom ≤ length room) where
   turn-nearest : nextReady (connected own far xs last) ≡ i
-  unfolding ask.ready
+  unfolding ask.readySession
   turn-nearest =
-      sym (nearest-unique (λ n. ask.ready (at (connected own far xs last) n)) last i hl h (ap ask.ready e) (λ n hn rn. omega (arith, gap-pos last n)))
+      sym (nearest-unique (λ n. ask.readySession (at (connected own far xs last) n)) last i hl h (ap ask.readySession e) (λ n hn rn. omega (arith, gap-pos last n)))
 
   turn-decided : decide (connected own far xs last) queue (turn room) ≡ serves own far xs last i
   unfolding turnRule settle
   turn-decided =
       let c = connected own far xs last in
-      let f = with-session (connected own far xs last) i i (served i) in
+      let f = setting-session (connected own far xs last) i i (served i) in
       passes refuse accept 14 _ (ap not w) ∙ passes refuse accept 8 _ (le-ltb (length room) turnRoom r)
       ∙ passes refuse accept 8 _ (ap not (eq-eqb (length queue) queueSize q))
       ∙ ap (λ (n : ℕ). settle refuse accept (serving c n)) turn-nearest

@@ -25,7 +25,7 @@ use Rattle.protocol.specs.Plan.{settle}
 use Rattle.protocol.specs.Message.{data-of}
 use Rattle.state.specs.New.{blank}
 use Rattle.protocol.specs.Connection.{wellFormed, allFormed, sessionFormed}
-use Rattle.protocol.specs.Judge.{done, header}
+use Rattle.protocol.specs.Judge.{done, header-received}
 use Rattle.protocol.specs.Call.{startRule, receiveRule, headerTaken}
 use Rattle.protocol.specs.Result.{bytesOfAll}
 use Rattle.protocol.specs.Observed.{isReady}
@@ -48,7 +48,7 @@ abbrev exchange : ℕ → List Call
 exchange far = starts ∷ receives (connectionHeader far) ∷ []
 
 abbrev exchanged-entries : ℕ → ℕ → List Entry
-exchanged-entries own far = taken starts done (connectionHeader own) ∷ greets (connectionHeader far) (header far) [] ∷ []
+exchanged-entries own far = taken starts done (connectionHeader own) ∷ greets (connectionHeader far) (header-received far) [] ∷ []
 
 abbrev waits-for-header : ℕ → Connection
 waits-for-header own = record { sessions = replicate 128 blank; stage = stage.Started; over = false; own = own; last = 127; ping = ping.None }
@@ -73,7 +73,7 @@ module _ (own far : ℕ) (hf : far < 65_536) (queue : List ℕ) where
   unfolding next
   header-next = ap (nextBy started (receives (connectionHeader far))) header-decided
 
-  header-out : out started (receives (connectionHeader far)) ≡ greets (connectionHeader far) (header far) []
+  header-out : out started (receives (connectionHeader far)) ≡ greets (connectionHeader far) (header-received far) []
   unfolding out bytesOfAll
   header-out = ap (outBy started (receives (connectionHeader far))) header-decided
 

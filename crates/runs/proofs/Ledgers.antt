@@ -8,7 +8,7 @@ use Rattle.wire.specs.declared.Message.the-variants as msg
 use Rattle.state.specs.declared.Side.the-variants as side
 use Rattle.protocol.specs.Connection.{at}
 use Rattle.protocol.specs.Fate.{no-fate, running, complete, may-be-retried, must-not-be-retried}
-use Rattle.protocol.specs.Judge.{done, served, header, message}
+use Rattle.protocol.specs.Judge.{done, served, header-received, message}
 use Rattle.protocol.specs.Observed.{ends}
 use Rattle.history.specs.Log.{Call, open-session, put, grant, ping, lost, log, run}
 use Rattle.history.specs.Account.{observed}
@@ -58,7 +58,7 @@ closed = exchanged ++ (pings ∷ receives acknowledges ∷ receives closes-5 ∷
 
 pub client-log : log client queue closed
     ≡ taken starts done (0x4A ∷ 0x6D ∷ 0x75 ∷ 0x78 ∷ 0x01 ∷ 0x00 ∷ 0x08 ∷ 0x00 ∷ [])
-    ∷ greets far-header (header 1) []
+    ∷ greets far-header (header-received 1) []
     ∷ taken (open-session 5) done []
     ∷ taken (put 5 abcd) done []
     ∷ taken turns (served 5) (0x90 ∷ 0x05 ∷ 0x00 ∷ 0x04 ∷ abcd)

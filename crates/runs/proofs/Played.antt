@@ -29,7 +29,7 @@ use Rattle.history.specs.Fates.{fatedAfter, fateTold}
 -- whoever unfolds this unfolds the rules, the reader and what a log tells
 unfoldable pub played : Setup → List ℕ → List Call → List Entry
 unfolding run logOf fold Every gather pick following firstAfter nearest fromHeader kindOf readMessage parseHeader typed allowed effectiveIncrement
-    readConnectionHeader parseConnectionHeader settle wellFormed allFormed sessionFormed receipt ask.ready openAsk putAsk finishAsk grantAsk abortAsk closeAsk turnAsk
+    readConnectionHeader parseConnectionHeader settle wellFormed allFormed sessionFormed receipt ask.readySession openAsk putAsk finishAsk grantAsk abortAsk closeAsk turnAsk
     judge startRule openRule putRule finishRule turnRule grantRule abortRule closeRule pingRule shutdownRule lostRule receiveRule bytesOfAll next out accountAfter observed
     sumAfter summed fatedAfter fateTold
 played setup queue calls = log setup queue calls

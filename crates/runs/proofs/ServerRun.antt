@@ -6,7 +6,7 @@ use Prim.Native.Nat.{ℕ}
 use Rattle.ration.specs.declared.Ration.the-variants as ration
 use Rattle.wire.specs.declared.Message.the-variants as msg
 use Rattle.state.specs.declared.Side.the-variants as side
-use Rattle.protocol.specs.Judge.{done, header, message}
+use Rattle.protocol.specs.Judge.{done, header-received, message}
 use Rattle.protocol.specs.Observed.{silent, ends}
 use Rattle.history.specs.Log.{Call, put, abort, log}
 use Rattle.history.specs.Account.{observed}
@@ -61,7 +61,7 @@ waiting = crossed ++ (receives again-5 ∷ receives opens-7 ∷ put-7 ∷ [])
 -- the header is answered by our own; the Data that crossed our Abort is late; the Abort that finds our side open gets the reply
 -- Abort with partial, and what waited is dropped
 pub server-log : log server queue (waiting ++ (receives aborts-7 ∷ turns ∷ put-7 ∷ []))
-    ≡ greets far-header (header 8) (0x4A ∷ 0x6D ∷ 0x75 ∷ 0x78 ∷ 0x01 ∷ 0x00 ∷ 0x04 ∷ 0x00 ∷ [])
+    ≡ greets far-header (header-received 8) (0x4A ∷ 0x6D ∷ 0x75 ∷ 0x78 ∷ 0x01 ∷ 0x00 ∷ 0x04 ∷ 0x00 ∷ [])
     ∷ took 7 opens-5 (message (msg.Data true false false false 5 3) false) []
     ∷ taken abort-5 done (0x22 ∷ 0x05 ∷ 0x00 ∷ 0x00 ∷ [])
     ∷ took 1_026 more-5 (message (msg.Data false false true false 5 1_022) true) []

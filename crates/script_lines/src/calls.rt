@@ -167,7 +167,7 @@ fn receive(rest: &[u8]) -> Command
 }
 
 // What a line behind the first asks.
-pub fn read(line: &[u8]) -> Command
+pub fn command_of(line: &[u8]) -> Command
     ensures { λ r. ⌜ r ≡ commandOf (now (line .entry)) ⌝ }
 {
     let rest = tail(line);

@@ -3,8 +3,8 @@ mod calls;
 mod names;
 
 pub use calls::begin;
+pub use calls::command_of;
 pub use calls::payload;
-pub use calls::read;
 use wire::Role;
 
 // A call of the engine; the bytes of put and receive stand in the line.

@@ -15,7 +15,7 @@ ghost use mathlib.Core.List.{[], _∷_};
 ghost use Prim.Native.Nat.{_≤_};
 ghost use Rattle.protocol.specs.Message.{data-of};
 ghost use Rattle.protocol.specs.Plan.{check};
-ghost use Rattle.protocol.specs.Ask.{positive as Ask·positive, due as Ask·due, ready as Ask·ready, smaller as Ask·smaller, sending as Ask·sending, turnOf, turnAsk};
+ghost use Rattle.protocol.specs.Ask.{positive as Ask·positive, due as Ask·due, readySession as Ask·ready, sendable as Ask·smaller, sending as Ask·sending, turnOf, turnAsk};
 ghost use Rattle.session.specs.Step.{sentAs, steppedAs, toStepped};
 
 // Whether a ration is above 0.

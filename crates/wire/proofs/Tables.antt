@@ -14,7 +14,7 @@ use Rattle.wire.specs.declared.Message.{Message}
 use Rattle.wire.specs.declared.Message.the-variants.{NoOperation, Shutdown, Ping, PingAck, Error, IncrementRation, Abort, Close, Acknowledgment, Data}
 use Rattle.wire.specs.Pattern.{Bit, O, I, x, -, bits, fits, withBits}
 use Rattle.wire.specs.FirstByte.{kindOf}
-use Rattle.wire.specs.Layout.{Row, layout, fixed, has, item, message, body, length}
+use Rattle.wire.specs.Layout.{LayoutRow, layout, fixed, hasItem, item, message, body, length}
 use Rattle.wire.specs.Message.{bodyLength}
 use Rattle.wire.specs.Connection.{connectionLayout}
 use Rattle.laws.proofs.Below.{every, below, below-number, below-test}
@@ -78,7 +78,7 @@ firstRows kind.Close = 1
 firstRows kind.Acknowledgment = 1
 firstRows kind.Data = 6
 
-fixed-append : (rs qs : List Row) (h : List ℕ) → fixed (rs ++ qs) h ≡ (fixed rs h && fixed qs h)
+fixed-append : (rs qs : List LayoutRow) (h : List ℕ) → fixed (rs ++ qs) h ≡ (fixed rs h && fixed qs h)
 fixed-append [] qs h = refl
 fixed-append (r ∷ rs) qs h = ap (λ (b : Bool). fits (r .pattern) 128 (getD h (r .offset) 0) && b) (fixed-append rs qs h)
     ∙ sym (and-assoc (fits (r .pattern) 128 (getD h (r .offset) 0)) (fixed rs h) (fixed qs h))
@@ -139,7 +139,7 @@ module _ (a b c d : ℕ) (hb : b < 256) (hc : c < 256) (hd : d < 256) where
   fixed-clear ha k j p e =
       ap (λ (i : Kind). clear i b c d) (sym p) ∙ sym (rest-fixed k)
       ∙ sym
-      (ap (λ (rs : List Row). fixed rs (a ∷ b ∷ c ∷ d ∷ [])) (sym (take-append-drop (firstRows k) (layout k)))
+      (ap (λ (rs : List LayoutRow). fixed rs (a ∷ b ∷ c ∷ d ∷ [])) (sym (take-append-drop (firstRows k) (layout k)))
       ∙ fixed-append (take (firstRows k) (layout k)) _ _
       ∙ ap (λ (t : Bool). t && fixed (drop (firstRows k) (layout k)) (a ∷ b ∷ c ∷ d ∷ [])) (first-only a b c d k ∙ first-fixed a ha k e))
 
@@ -188,7 +188,7 @@ module _ (a b c d : ℕ) (ha : a < 256) (hb : b < 256) (hc : c < 256) (hd : d < 
       same p q = rw (p, q)
 
 -- bytes follow the header exactly where the layout has a row for them, and as many as the length says
-pub body-follows : (k : Kind) (h : List ℕ) → bodyLength (message k h) ≡ cond (has body (layout k)) (item k length h) 0
+pub body-follows : (k : Kind) (h : List ℕ) → bodyLength (message k h) ≡ cond (hasItem body (layout k)) (item k length h) 0
 body-follows kind.NoOperation h = refl
 body-follows kind.Shutdown h = refl
 body-follows kind.Ping h = refl

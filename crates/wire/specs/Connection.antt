@@ -6,9 +6,9 @@ use lib.Dec.{ltb, leb}
 use Rattle.laws.specs.Pick.{pick}
 use Rattle.laws.specs.Result.{Result, ok, refused, violation}
 use Rattle.wire.specs.Pattern.{O, I, x, bits}
-use Rattle.wire.specs.Layout.{Row, row, fixed, digits, magic, version, initialRation, reserved}
+use Rattle.wire.specs.Layout.{LayoutRow, row, fixed, digits, magic, version, initialRation, reserved}
 
-abbrev pub connectionLayout : List Row
+abbrev pub connectionLayout : List LayoutRow
 connectionLayout =
     row 0 (bits O I O O I O I O) magic
     ∷ row 1 (bits O I I O I I O I) magic

@@ -8,15 +8,15 @@ use Rattle.wire.specs.declared.Kind.the-variants.{NoOperation, Shutdown,
 use Rattle.wire.specs.declared.Named.{Named}
 use Rattle.wire.specs.declared.Named.the-variants.{Known, Unknown}
 
-pub record Row : Type 0 where
+pub record TypeRow : Type 0 where
   pub pattern : List Bit
   pub kind : Kind
 
-abbrev row : List Bit → Kind → Row
+abbrev row : List Bit → Kind → TypeRow
 row p k = record { pattern = p; kind = k }
 
-abbrev pub table : List Row
-table =
+abbrev pub typeTable : List TypeRow
+typeTable =
     row (bits O O O O O O O O) NoOperation
     ∷ row (bits O O O O O O I O) Shutdown
     ∷ row (bits O O O O O I O O) Ping
@@ -30,9 +30,9 @@ table =
     ∷ []
 
 -- the type of the row that the byte fits
-abbrev pub lookup : List Row → ℕ → Named
+abbrev pub lookup : List TypeRow → ℕ → Named
 lookup [] byte = Unknown
 lookup (r ∷ rs) byte = cond (fits (r .pattern) 128 byte) (Known (r .kind)) (lookup rs byte)
 
 unfoldable pub kindOf : ℕ → Named
-kindOf byte = lookup table byte
+kindOf byte = lookup typeTable byte

@@ -35,31 +35,31 @@ number magic = 13
 number version = 14
 number initialRation = 15
 
-pub record Row : Type 0 where
+pub record LayoutRow : Type 0 where
   pub offset : ℕ
   pub pattern : List Bit
   pub item : Item
 
-abbrev pub row : ℕ → List Bit → Item → Row
+abbrev pub row : ℕ → List Bit → Item → LayoutRow
 row at p i = record { offset = at; pattern = p; item = i }
 
 -- bytes 2 and 3, one item
-abbrev wide : List Bit → Item → List Row → List Row
+abbrev wide : List Bit → Item → List LayoutRow → List LayoutRow
 wide p i rows = row 2 p i ∷ row 3 p i ∷ rows
 
 -- a length in bytes 2 and 3, and from byte 4 on that many bytes
-abbrev lengthAndBody : List Row
+abbrev lengthAndBody : List LayoutRow
 lengthAndBody = wide (bits x x x x x x x x) length (row 4 [] body ∷ [])
 
 -- a session identifier stands in a byte with its top bit reserved
-abbrev session : List Row → List Row
+abbrev session : List LayoutRow → List LayoutRow
 session rows = row 1 (bits O - - - - - - -) reserved ∷ row 1 (bits - x x x x x x x) sessionID ∷ rows
 
 -- the layout of a message that pertains to the connection as a whole
-abbrev whole : List Bit → List Row → List Row
+abbrev whole : List Bit → List LayoutRow → List LayoutRow
 whole first rows = row 0 first identifier ∷ row 1 (bits O O O O O O O O) reserved ∷ rows
 
-abbrev pub layout : Kind → List Row
+abbrev pub layout : Kind → List LayoutRow
 layout kind.NoOperation = whole (bits O O O O O O O O) lengthAndBody
 layout kind.Shutdown = whole (bits O O O O O O I O) lengthAndBody
 layout kind.Ping = whole (bits O O O O O I O O) (wide (bits x x x x x x x x) cookie [])
@@ -87,20 +87,20 @@ layout kind.Data =
     ∷ session lengthAndBody
 
 -- each bit that a row fixes is as the row says
-abbrev pub fixed : List Row → List ℕ → Bool
+abbrev pub fixed : List LayoutRow → List ℕ → Bool
 fixed [] header = true
 fixed (r ∷ rs) header = fits (r .pattern) 128 (getD header (r .offset) 0) && fixed rs header
 
 -- the binary digits of n, and behind them the bits of each row that describes the item
-abbrev pub digits : Item → List Row → List ℕ → ℕ → ℕ
+abbrev pub digits : Item → List LayoutRow → List ℕ → ℕ → ℕ
 digits i [] header n = n
 digits i (r ∷ rs) header n =
     digits i rs header (cond (eqb (number i) (number (r .item))) (withBits (r .pattern) 128 (getD header (r .offset) 0) n) n)
 
 -- whether a layout has a row for the item
-abbrev pub has : Item → List Row → Bool
-has i [] = false
-has i (r ∷ rs) = eqb (number i) (number (r .item)) || has i rs
+abbrev pub hasItem : Item → List LayoutRow → Bool
+hasItem i [] = false
+hasItem i (r ∷ rs) = eqb (number i) (number (r .item)) || hasItem i rs
 
 -- the number that an item of a message holds
 abbrev pub item : Kind → Item → List ℕ → ℕ

@@ -43,20 +43,12 @@ fn grown(answer: Grown) {
     }
 }
 
-fn granted(may: bool) {
-    if may {
-        show::text(b", may be granted\n");
-    } else {
-        show::text(b", may not be granted\n");
-    }
-}
-
 // A ration grown by an increment that is shifted.
 fn grow(r: Ration, shift: u8, increment: u16) {
     let n = wire_fields::effective_increment(shift, increment);
     asked(r, b" grow ", n);
     grown(r.grow(n));
-    granted(r.grantable(n));
+    show::end();
 }
 
 fn starts() {

@@ -6,7 +6,7 @@ use borrow.Author.Needs.{needs}
 use Rattle.protocol.specs.Plan.{take}
 use Rattle.protocol.specs.Connection.{at}
 use Rattle.protocol.specs.Ask.{putAsk}
-use Rattle.protocol.specs.Judge.{done, with-session}
+use Rattle.protocol.specs.Judge.{done, setting-session}
 use Rattle.protocol.specs.Call.{upAndRunning, queueOf, numberIn, asking, putRule}
 use Rattle.protocol.specs.Result.{given}
 use Rattle.call_checks.proofs.Calls.{stepped, stopped}
@@ -30,7 +30,7 @@ returns c =
     let same : at-session .session-at .result ≡ at (a .c) (a .n) = at-session .session-at .ensures in
     rw same at (c .before .before .conclude-put .ensures)
     ∙ ap (putting (a .c) (a .n) (at (a .c) (a .n) .waiting) (now (a .src)) (now (a .queue)))
-    (stepped (with-session (a .c) (a .n) (a .c .last) done) (upAndRunning (a .c) (queueOf (length (now (a .queue))) (numberIn (a .n) (take tt)))) (putAsk (at (a .c) (a .n)) (length (now (a .src)))) (start .to-put .ensures) (gate .enum-told .given .1)
+    (stepped (setting-session (a .c) (a .n) (a .c .last) done) (upAndRunning (a .c) (queueOf (length (now (a .queue))) (numberIn (a .n) (take tt)))) (putAsk (at (a .c) (a .n)) (length (now (a .src)))) (start .to-put .ensures) (gate .enum-told .given .1)
     (rw same at (c .before .before .before .before .step-put .ensures)))
     ∙ put-is (a .c) (a .n) (now (a .src)) (now (a .queue))
 

@@ -3,12 +3,12 @@ use mathlib.Core.Path.{ap, _∙_}
 use lib.ListN.{length}
 use denote.Ref.{now}
 use borrow.Author.Needs.{needs}
-use Rattle.protocol.specs.Judge.{done, with-session}
+use Rattle.protocol.specs.Judge.{done, setting-session}
 use Rattle.protocol.specs.Plan.{take}
 use Rattle.protocol.specs.Call.{numberIn}
 use Rattle.protocol.specs.Result.{inRoom}
 use Rattle.session.specs.Step.{steppedAs}
-use Rattle.call_checks.proofs.Calls.{roomy, asked-behind, refusing-in}
+use Rattle.call_checks.proofs.Calls.{roomy, stepped-behind, refusing-in}
 use Rattle.call_checks.specs.Stepped.{checks}
 use Rattle.call_checks.proofs.stepping.take_step_in.Statement.{statement}
 use Rattle.call_checks.proofs.stepping.take_step_in.Tie as tie
@@ -27,7 +27,7 @@ returns c =
     let a = start .before .before .args in
     c .before .before .step-taken-in .ensures
     ∙ ap (inRoom (a .c) (now (a .room)))
-    (asked-behind (with-session (a .c) (a .n) (a .c .last) done) (checks (a .c) (a .n) (length (now (a .room)))) (steppedAs (a .stepped)) (start .to-write-session .ensures) (gate .enum-told .given .1))
+    (stepped-behind (setting-session (a .c) (a .n) (a .c .last) done) (checks (a .c) (a .n) (length (now (a .room)))) (steppedAs (a .stepped)) (start .to-write-session .ensures) (gate .enum-told .given .1))
 
 returns-2 : tie.Need-returns-2
 returns-2 c =
@@ -35,7 +35,7 @@ returns-2 c =
     let a = start .before .before .args in
     refusing-in (a .c) (now (a .room)) (c .refused .ensures)
     ∙ ap (inRoom (a .c) (now (a .room)))
-    (asked-behind (with-session (a .c) (a .n) (a .c .last) done) (checks (a .c) (a .n) (length (now (a .room)))) (steppedAs (a .stepped)) (start .to-write-session .ensures) (c .before .before .gate .given .1))
+    (stepped-behind (setting-session (a .c) (a .n) (a .c .last) done) (checks (a .c) (a .n) (length (now (a .room)))) (steppedAs (a .stepped)) (start .to-write-session .ensures) (c .before .before .gate .given .1))
 
 pub take-step-in-spec : {M : Type 1} → statement M
 take-step-in-spec =

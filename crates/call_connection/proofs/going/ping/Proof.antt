@@ -7,7 +7,7 @@ use borrow.Author.Needs.{needs}
 use Rattle.wire.specs.declared.Message.the-variants as msg
 use Rattle.state.specs.declared.Ping.the-variants as ping
 use Rattle.protocol.specs.Plan.{take, check, settle}
-use Rattle.protocol.specs.Judge.{done, sent, with-ping}
+use Rattle.protocol.specs.Judge.{done, sent, setting-ping}
 use Rattle.protocol.specs.Call.{upAndRunning, roomFor, isOutstanding, pingRule}
 use Rattle.protocol.specs.Result.{given, inRoom, pingCall}
 use Rattle.call_checks.proofs.Checks.{one-more}
@@ -26,7 +26,7 @@ returns c =
     let a = flag .before .before .args in
     let x = a .c in
     let room = now (a .room) in
-    let e = with-ping x (ping.Outstanding (a .cookie)) done (sent (msg.Ping (a .cookie)) ∷ []) in
+    let e = setting-ping x (ping.Outstanding (a .cookie)) done (sent (msg.Ping (a .cookie)) ∷ []) in
     let p = upAndRunning x (roomFor 4 (length room) (check (isOutstanding (x .ping)) 13 (take tt))) in
     let ens = one-more (upAndRunning x (roomFor 4 (length room) (take tt))) (isOutstanding (x .ping)) 13 (more .further .ensures) (flag .is-outstanding .ensures) (more .before .to-write .ensures) in
     let told = gate .enum-told .given .1 in
@@ -42,7 +42,7 @@ returns-2 c =
     let a = flag .before .before .args in
     let x = a .c in
     let room = now (a .room) in
-    let e = with-ping x (ping.Outstanding (a .cookie)) done (sent (msg.Ping (a .cookie)) ∷ []) in
+    let e = setting-ping x (ping.Outstanding (a .cookie)) done (sent (msg.Ping (a .cookie)) ∷ []) in
     let p = upAndRunning x (roomFor 4 (length room) (check (isOutstanding (x .ping)) 13 (take tt))) in
     let ens = one-more (upAndRunning x (roomFor 4 (length room) (take tt))) (isOutstanding (x .ping)) 13 (more .further .ensures) (flag .is-outstanding .ensures) (more .before .to-write .ensures) in
     refusing-in x room (c .refused .ensures) ∙ ap (inRoom x room) (stopped p ens (take e) (c .before .before .gate .given .1))

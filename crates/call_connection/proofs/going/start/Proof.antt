@@ -9,7 +9,7 @@ use Rattle.wire.specs.Message.{isServer}
 use Rattle.state.specs.declared.Stage.the-variants as stage
 use Rattle.protocol.specs.Plan.{take, check, settle}
 use Rattle.protocol.specs.Connection.{roleOf}
-use Rattle.protocol.specs.Judge.{done, own-header, with-stage}
+use Rattle.protocol.specs.Judge.{done, own-header, setting-stage}
 use Rattle.protocol.specs.Call.{running, roomFor, isFresh, startRule}
 use Rattle.protocol.specs.Result.{given, inRoom, startCall}
 use Rattle.call_checks.proofs.Checks.{one-more}
@@ -28,7 +28,7 @@ returns c =
     let a = flag .before .before .before .before .args in
     let x = a .c in
     let room = now (a .room) in
-    let e = with-stage x stage.Started done (own-header (x .own) ∷ []) in
+    let e = setting-stage x stage.Started done (own-header (x .own) ∷ []) in
     let p = running x (roomFor 8 (length room) (check (isServer (roleOf (x .stage))) 4 (check (not (isFresh (x .stage))) 5 (take tt)))) in
     let ens =
     one-more (running x (roomFor 8 (length room) (check (isServer (roleOf (x .stage))) 4 (take tt)))) (not (isFresh (x .stage))) 5 (more .further2 .ensures) (ap not (flag .is-fresh .ensures))
@@ -47,7 +47,7 @@ returns-2 c =
     let a = flag .before .before .before .before .args in
     let x = a .c in
     let room = now (a .room) in
-    let e = with-stage x stage.Started done (own-header (x .own) ∷ []) in
+    let e = setting-stage x stage.Started done (own-header (x .own) ∷ []) in
     let p = running x (roomFor 8 (length room) (check (isServer (roleOf (x .stage))) 4 (check (not (isFresh (x .stage))) 5 (take tt)))) in
     let ens =
     one-more (running x (roomFor 8 (length room) (check (isServer (roleOf (x .stage))) 4 (take tt)))) (not (isFresh (x .stage))) 5 (more .further2 .ensures) (ap not (flag .is-fresh .ensures))

@@ -2,7 +2,7 @@
 use mathlib.Core.Path.{refl, ap, _∙_}
 use mathlib.Core.List.{[]}
 use borrow.Author.Needs.{needs}
-use Rattle.protocol.specs.Judge.{done, with-session}
+use Rattle.protocol.specs.Judge.{done, setting-session}
 use Rattle.protocol.specs.Plan.{take}
 use Rattle.protocol.specs.Connection.{at}
 use Rattle.protocol.specs.Ask.{finishAsk}
@@ -24,7 +24,7 @@ returns c =
     let a = step .before .before .args in
     c .take-step .ensures
     ∙ ap (given (a .c) [])
-    (by-rule (with-session (a .c) (a .n) (a .c .last) done) (upAndRunning (a .c) (numberIn (a .n) (take tt))) (finishAsk (at (a .c) (a .n))) (rw (step .before .session-at .ensures) at (step .step-finish .ensures)))
+    (by-rule (setting-session (a .c) (a .n) (a .c .last) done) (upAndRunning (a .c) (numberIn (a .n) (take tt))) (finishAsk (at (a .c) (a .n))) (rw (step .before .session-at .ensures) at (step .step-finish .ensures)))
 
 pub finish-spec : {M : Type 1} → statement M
 finish-spec = tie.close (tie.spec (λ c κs. search needs) (λ c κs. search needs) take-step-requires returns)

@@ -2,7 +2,7 @@
 use mathlib.Core.Path.{ap, _∙_}
 use mathlib.Core.List.{[]}
 use borrow.Author.Needs.{needs}
-use Rattle.protocol.specs.Judge.{done, with-session}
+use Rattle.protocol.specs.Judge.{done, setting-session}
 use Rattle.protocol.specs.Plan.{take}
 use Rattle.protocol.specs.Connection.{at, roleOf}
 use Rattle.protocol.specs.Ask.{openAsk}
@@ -23,7 +23,7 @@ returns c =
     let a = step .before .before .before .args in
     c .take-step .ensures
     ∙ ap (given (a .c) [])
-    (by-rule (with-session (a .c) (a .n) (a .c .last) done) (upAndRunning (a .c) (numberIn (a .n) (take tt))) (openAsk (roleOf (a .c .stage)) (at (a .c) (a .n))) (rw (step .before .session-at .ensures, step .before .before .role-of .ensures) at (step .step-open .ensures)))
+    (by-rule (setting-session (a .c) (a .n) (a .c .last) done) (upAndRunning (a .c) (numberIn (a .n) (take tt))) (openAsk (roleOf (a .c .stage)) (at (a .c) (a .n))) (rw (step .before .session-at .ensures, step .before .before .role-of .ensures) at (step .step-open .ensures)))
 
 pub open-session-spec : {M : Type 1} → statement M
 open-session-spec = tie.close (tie.spec (λ c κs. search needs) (λ c κs. search needs) (λ c κs. search needs) take-step-requires returns)

@@ -2,14 +2,14 @@
 use mathlib.Core.Path.{ap, _∙_}
 use mathlib.Core.List.{[]}
 use borrow.Author.Needs.{needs}
-use Rattle.protocol.specs.Judge.{done, with-session}
+use Rattle.protocol.specs.Judge.{done, setting-session}
 use Rattle.protocol.specs.Plan.{take}
 use Rattle.protocol.specs.Call.{upAndRunning, numberIn}
 use Rattle.protocol.specs.Result.{given}
 use Rattle.session.specs.Step.{steppedAs}
-use Rattle.call_checks.proofs.Calls.{asked-behind}
-use Rattle.call_session.proofs.stepping.ask.Statement.{statement}
-use Rattle.call_session.proofs.stepping.ask.Tie as tie
+use Rattle.call_checks.proofs.Calls.{stepped-behind}
+use Rattle.call_session.proofs.stepping.take_step.Statement.{statement}
+use Rattle.call_session.proofs.stepping.take_step.Tie as tie
 
 returns : tie.Need-returns
 returns c =
@@ -18,7 +18,7 @@ returns c =
     let a = start .before .args in
     c .step-taken .ensures
     ∙ ap (given (a .c) [])
-    (asked-behind (with-session (a .c) (a .n) (a .c .last) done) (upAndRunning (a .c) (numberIn (a .n) (take tt))) (steppedAs (a .stepped)) (start .to-session .ensures) (gate .enum-told .given .1))
+    (stepped-behind (setting-session (a .c) (a .n) (a .c .last) done) (upAndRunning (a .c) (numberIn (a .n) (take tt))) (steppedAs (a .stepped)) (start .to-session .ensures) (gate .enum-told .given .1))
 
 returns-2 : tie.Need-returns-2
 returns-2 c =
@@ -26,7 +26,7 @@ returns-2 c =
     let a = start .before .args in
     c .refused .ensures
     ∙ ap (given (a .c) [])
-    (asked-behind (with-session (a .c) (a .n) (a .c .last) done) (upAndRunning (a .c) (numberIn (a .n) (take tt))) (steppedAs (a .stepped)) (start .to-session .ensures) (c .before .before .gate .given .1))
+    (stepped-behind (setting-session (a .c) (a .n) (a .c .last) done) (upAndRunning (a .c) (numberIn (a .n) (take tt))) (steppedAs (a .stepped)) (start .to-session .ensures) (c .before .before .gate .given .1))
 
 pub take-step-spec : {M : Type 1} → statement M
 take-step-spec =

@@ -7,7 +7,7 @@ use Rattle.protocol.specs.Connection.{at, roleOf}
 use Rattle.protocol.specs.Ask.{abortAsk}
 use Rattle.protocol.specs.Call.{abortRule}
 use Rattle.protocol.specs.Result.{inRoom, abortCall}
-use Rattle.protocol.specs.Judge.{done, with-session}
+use Rattle.protocol.specs.Judge.{done, setting-session}
 use Rattle.call_checks.specs.Stepped.{checks}
 use Rattle.call_checks.proofs.Calls.{by-rule}
 use Rattle.call_session.proofs.writing.abort.Statement.{statement}
@@ -20,7 +20,7 @@ returns c =
     let a = step .before .before .before .before .args in
     c .before .before .take-step-in .ensures
     ∙ ap (inRoom (a .c) (now (a .room)))
-    (by-rule (with-session (a .c) (a .n) (a .c .last) done) (checks (a .c) (a .n) (length (now (a .room)))) (abortAsk (roleOf (a .c .stage)) (at (a .c) (a .n)) (a .partial)) (rw (step .before .session-at .ensures, step .before .before .role-of .ensures) at (step .step-abort .ensures)))
+    (by-rule (setting-session (a .c) (a .n) (a .c .last) done) (checks (a .c) (a .n) (length (now (a .room)))) (abortAsk (roleOf (a .c .stage)) (at (a .c) (a .n)) (a .partial)) (rw (step .before .session-at .ensures, step .before .before .role-of .ensures) at (step .step-abort .ensures)))
 
 pub abort-spec : {M : Type 1} → statement M
 abort-spec =

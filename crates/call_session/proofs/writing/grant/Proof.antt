@@ -7,7 +7,7 @@ use Rattle.protocol.specs.Connection.{at}
 use Rattle.protocol.specs.Ask.{grantAsk}
 use Rattle.protocol.specs.Call.{grantRule}
 use Rattle.protocol.specs.Result.{inRoom, grantCall}
-use Rattle.protocol.specs.Judge.{done, with-session}
+use Rattle.protocol.specs.Judge.{done, setting-session}
 use Rattle.call_checks.specs.Stepped.{checks}
 use Rattle.call_checks.proofs.Calls.{by-rule}
 use Rattle.call_session.proofs.writing.grant.Statement.{statement}
@@ -20,7 +20,7 @@ returns c =
     let a = step .before .before .before .args in
     c .before .before .take-step-in .ensures
     ∙ ap (inRoom (a .c) (now (a .room)))
-    (by-rule (with-session (a .c) (a .n) (a .c .last) done) (checks (a .c) (a .n) (length (now (a .room)))) (grantAsk (at (a .c) (a .n)) (a .amount)) (rw (step .before .session-at .ensures) at (step .step-grant .ensures)))
+    (by-rule (setting-session (a .c) (a .n) (a .c .last) done) (checks (a .c) (a .n) (length (now (a .room)))) (grantAsk (at (a .c) (a .n)) (a .amount)) (rw (step .before .session-at .ensures) at (step .step-grant .ensures)))
 
 pub grant-spec : {M : Type 1} → statement M
 grant-spec =

@@ -5,7 +5,7 @@ use borrow.Author.Needs.{needs}
 use Rattle.state.specs.declared.Session.{Session}
 use Rattle.protocol.specs.Ask.{turnAsk}
 use Rattle.protocol.specs.Connection.{at, ownStart, farStart}
-use Rattle.protocol.specs.Judge.{served, with-session}
+use Rattle.protocol.specs.Judge.{served, setting-session}
 use Rattle.call_checks.specs.Deciding.{decision}
 use Rattle.call_checks.proofs.Calls.{step}
 use Rattle.call_turn.specs.Turned.{turnGives}
@@ -26,7 +26,7 @@ returns c =
     let own = far .before in
     let x = own .before in
     let a = x .before .before .before .args in
-    let effect = with-session (a .c) (a .n) (a .n) (served (a .n)) in
+    let effect = setting-session (a .c) (a .n) (a .n) (served (a .n)) in
     let ask = turnAsk (ownStart (a .c)) (farStart (a .c)) (at (a .c) (a .n)) in
     c .before .before .before .before .conclude-turn .ensures
     ∙ ap (turnGives (a .c) (now (a .queue)) (now (a .room)))

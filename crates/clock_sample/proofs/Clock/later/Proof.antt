@@ -3,7 +3,7 @@ use mathlib.Core.Path.{_≡_}
 use mathlib.Core.Bool.{true}
 use lib.Ieee.{Float, ofBits, ofInt, div}
 use borrow.Author.Needs.{needs}
-use Rattle.clock_numbers.specs.Arithmetic.{_⊕_, _⊗_, whole, 0·75, 0·25, 0·875, 0·125, distance}
+use Rattle.clock_numbers.specs.Arithmetic.{_⊕_, _⊗_, wholeNumber, 0·75, 0·25, 0·875, 0·125, distance}
 use Rattle.clock_sample.specs.declared.Clock.{Clock}
 use Rattle.clock_sample.specs.Clock.{later}
 use Rattle.clock_sample.proofs.Clock.later.Statement.{statement}
@@ -15,7 +15,7 @@ unfolding later
 later-at clock R far e = rw e
 
 returns : tie.Need-returns
-unfolding ofBits ofInt div whole 0·75 0·25 0·875 0·125
+unfolding ofBits ofInt div wholeNumber 0·75 0·25 0·875 0·125
 returns c = later-at _ _ _ (search needs)
 
 pub later-spec : {M : Type 1} → statement M

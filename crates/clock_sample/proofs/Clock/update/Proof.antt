@@ -2,14 +2,14 @@
 use mathlib.Core.Path.{refl, sym}
 use borrow.Author.Needs.{needs}
 use Rattle.laws.proofs.Pick.{yes, no}
-use Rattle.clock_numbers.specs.Arithmetic.{whole}
+use Rattle.clock_numbers.specs.Arithmetic.{wholeNumber}
 use Rattle.clock_sample.specs.Clock.{sampleRule}
 use Rattle.clock_sample.proofs.Tests.{both-ensured}
 use Rattle.clock_sample.proofs.Clock.update.Statement.{statement}
 use Rattle.clock_sample.proofs.Clock.update.Tie as tie
 
 returns : tie.Need-returns
-unfolding sampleRule whole
+unfolding sampleRule wholeNumber
 returns c =
     rw (c .updated .ensures)
     (sym (yes _ _ _ (both-ensured (c .before .before .before .is-good .ensures) refl (c .before .before .if1 .taken))))

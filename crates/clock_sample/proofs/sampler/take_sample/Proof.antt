@@ -47,8 +47,8 @@ use Rattle.clock_sample.specs.declared.Clock.{Clock}
 use Rattle.clock_sample.specs.declared.Update.{Update}
 use Rattle.clock_sample.proofs.Clock as C
 use Rattle.clock_sample.proofs.Clock.Laws as C′
-use Rattle.clock_sample.proofs.Outcome as O
-use Rattle.clock_sample.proofs.Outcome.Laws as O′
+use Rattle.clock_sample.proofs.SampleAnswer as O
+use Rattle.clock_sample.proofs.SampleAnswer.Laws as O′
 use Rattle.clock_sample.proofs.Update as U
 use Rattle.clock_sample.proofs.Update.Laws as U′
 use Rattle.clock_sample.proofs.Clock.update as update

@@ -44,12 +44,12 @@ use denote.Triple.Walked.{says, Stays, stay-none, walkOf, AllGo, goes-none, Walk
 use denote.Exit.{yes}
 use Rattle.clock_sample.specs.Clock.{sampleRule, outcomeResult}
 use Rattle.clock_sample.specs.declared.Clock.{Clock}
-use Rattle.clock_sample.specs.declared.Outcome.{Outcome}
+use Rattle.clock_sample.specs.declared.SampleAnswer.{SampleAnswer}
 use Rattle.clock_sample.specs.declared.Update.{Update}
 use Rattle.clock_sample.proofs.Clock as C
 use Rattle.clock_sample.proofs.Clock.Laws as C′
-use Rattle.clock_sample.proofs.Outcome as O
-use Rattle.clock_sample.proofs.Outcome.Laws as O′
+use Rattle.clock_sample.proofs.SampleAnswer as O
+use Rattle.clock_sample.proofs.SampleAnswer.Laws as O′
 use Rattle.clock_sample.proofs.Update as U
 use Rattle.clock_sample.proofs.Update.Laws as U′
 use Rattle.clock_sample.proofs.sampler.take_sample as take
@@ -68,13 +68,13 @@ stayed = (stay-none (λ _. C.the-row) yes, (stay-none (λ _. u32) yes, tt))
 abbrev clock-val : Clock → Val
 clock-val c = LL.val C.the-type C′.the-laws c
 
-abbrev result : Outcome → Clock → Update
+abbrev result : SampleAnswer → Clock → Update
 result a c = record { outcome = a; clock = c }
 
-abbrev result-val : Outcome → Clock → Val
+abbrev result-val : SampleAnswer → Clock → Val
 result-val a c = LL.val U.the-type U′.the-laws (result a c)
 
-result-is : (a : Outcome) (c : Clock) (v : Val) → Is O.the-row a (v ∷ []) → Is C.the-row c (clock-val c ∷ []) → Is U.the-row (result a c) (result-val a c ∷ [])
+result-is : (a : SampleAnswer) (c : Clock) (v : Val) → Is O.the-row a (v ∷ []) → Is C.the-row c (clock-val c ∷ []) → Is U.the-row (result a c) (result-val a c ∷ [])
 result-is a c v is was = LL.owes U.the-type U′.the-laws (result a c) (subst (Is O.the-row a) (EL.tells O.the-type O′.the-laws a (v ∷ []) is) is, (was, tt))
 
 module _ {M : Type 1} (𝓤 : URA M) (H : Heap 𝓤) (A : Atoms 𝓤) (W : Given 𝓤 H A) (at-mem : Memory → SProp 𝓤) (run : Routine → Fun 𝓤) where
@@ -108,7 +108,7 @@ module _ {M : Type 1} (𝓤 : URA M) (H : Heap 𝓤) (A : Atoms 𝓤) (W : Given
         owned ! u32 (Is u32) (uint-makes 𝓤 H A W w32) n _ (refl, n-fits) $ fjoin ! $ move ! (2 ∷ 0 ∷ []) $ fjoin ! $ move ! (1 ∷ 0 ∷ []) $ join ! $ frame ! $ done !
 
     -- what the callee ensures, at some last clock
-    abbrev ByTheRule : Outcome → Clock → Type 0
+    abbrev ByTheRule : SampleAnswer → Clock → Type 0
     ByTheRule a last = (outcomeResult a, last) ≡ sampleRule h n
 
     -- the clock in a local's cell lies in memory
@@ -120,7 +120,7 @@ module _ {M : Type 1} (𝓤 : URA M) (H : Heap 𝓤) (A : Atoms 𝓤) (W : Given
         owned ! C.the-row (Is C.the-row) (LL.makes C.the-type C′.the-plain 𝓤 H A) h _ was $ move ! (1 ∷ 0 ∷ []) $ fjoin ! $
         fpack ! (List Val) (λ us. fsep (cellAt fullShare (C.the-row .mir) us l 0) (C.the-row .own h us)) (clock-val h ∷ []) $ done !
 
-    exits : (a : Outcome) (c : Clock) → ByTheRule a c → Is U.the-row (result a c) (result-val a c ∷ []) → ent 𝓤 (emp 𝓤) (Own .post called (result-val a c))
+    exits : (a : SampleAnswer) (c : Clock) → ByTheRule a c → Is U.the-row (result a c) (result-val a c ∷ []) → ent 𝓤 (emp 𝓤) (Own .post called (result-val a c))
     exits a c e is =
         qed W [] ∵
         suffices ! _ (ends-at 𝓤 H A f.ended stayed (f.clauses 𝓤 H A at-mem run) W called (result-val a c) (result a c) (tt, (tt, tt)) (tt, (tt, tt))) $
@@ -147,7 +147,7 @@ module _ {M : Type 1} (𝓤 : URA M) (H : Heap 𝓤) (A : Atoms 𝓤) (W : Given
           -- [what the callee asks; the lender's part; _6; …; _5; …; _4; …; _3's end; _2; …; _1; …; room for _0; …]: the call
           calls-at ! fm Callee known (to ν δ l₃)
           (and-then ! (load ! (from ! (stop !)) (look ! 4 refl)) (and-then ! (load ! (from ! (stop !)) (look ! 9 refl)) (no-more !))) (λ v.
-          use1 W (later (some (λ (a : Outcome). ((‵ (flft (ν ∷ []) fullShare) ⊛ ‵ ftrue) ⊛ ‵ (O.the-row .own a (v ∷ []))) ⊛
+          use1 W (later (some (λ (a : SampleAnswer). ((‵ (flft (ν ∷ []) fullShare) ⊛ ‵ ftrue) ⊛ ‵ (O.the-row .own a (v ∷ []))) ⊛
           raw (ensured 𝓤 H A take.ended (take.clauses 𝓤 H A at-mem run) (ν ∷ [], tt) (ref l₃ δ, (n, tt)) tt a)))) (id⊢ 𝓤 _) $ await ! tt $ pick ! (λ a.
           split ! $ move ! (1 ∷ []) $
           use1 W (some (λ (zs : Clock × (Unit {0} × Unit {0})). ‵ (lasts take.ended (ν ∷ [], tt) (ref l₃ δ, (n, tt)) zs) ⊛ raw (fact 𝓤 (ByTheRule a (zs .0))))) (id⊢ 𝓤 _) $ pick ! (λ zs.

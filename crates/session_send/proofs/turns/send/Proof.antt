@@ -11,19 +11,19 @@ use Rattle.ration.specs.declared.Spent.the-variants.{NotEnough}
 use Rattle.ration.specs.Ration.{allows, spend}
 use Rattle.ration.proofs.Laws.{spend-gives, spend-none}
 use Rattle.protocol.specs.Plan.{settle}
-use Rattle.protocol.specs.Ask.{smaller}
+use Rattle.protocol.specs.Ask.{sendable}
 use Rattle.session_send.proofs.turns.send.Statement.{statement}
 use Rattle.session_send.proofs.turns.send.Tie as tie
 
 -- a ration allows the smaller of it and what waits
-smaller-allowed : (w : ℕ) (r : Ration) → allows r (smaller w r) ≡ true
+smaller-allowed : (w : ℕ) (r : Ration) → allows r (sendable w r) ≡ true
 smaller-allowed w (Finite n) = le-leb (min w n) n (omega arith)
 smaller-allowed w Endless = refl
 
-never-short : (w : ℕ) (r : Ration) {n : ℕ} → n ≡ smaller w r → spend r n ≡ NotEnough → ⊥
+never-short : (w : ℕ) (r : Ration) {n : ℕ} → n ≡ sendable w r → spend r n ≡ NotEnough → ⊥
 never-short w r {n} e q =
     let no : allows r n ≡ false = spend-none r n q in
-    let yes : allows r (smaller w r) ≡ true = smaller-allowed w r in
+    let yes : allows r (sendable w r) ≡ true = smaller-allowed w r in
     let z : _≡_ {A = ℕ} 0 1 = cc in
     omega arith
 

@@ -1,4 +1,4 @@
--- `read` meets its contract: each arm of the code is a case of the definition.
+-- `command_of` meets its contract: each arm of the code is a case of the definition.
 use mathlib.Core.Path.{sym, ap, _∙_}
 use borrow.Author.Needs.{needs}
 use Rattle.script_words.proofs.Texts.{told}
@@ -6,8 +6,8 @@ use Rattle.script_words.specs.Words.{tailOf}
 use Rattle.script_lines.specs.Calls.{commandAs, commandOf, openCommand, putCommand, finishCommand, sessionCommand, grantCommand, abortCommand, closeCommand, pingCommand, receiveCommand, queueCommand}
 use Rattle.script_lines.specs.declared.Name.{Name}
 use Rattle.script_lines.specs.Names.{nameOf}
-use Rattle.script_lines.proofs.calls.read.Statement.{statement}
-use Rattle.script_lines.proofs.calls.read.Tie as tie
+use Rattle.script_lines.proofs.calls.command_of.Statement.{statement}
+use Rattle.script_lines.proofs.calls.command_of.Tie as tie
 
 returns : tie.Need-returns
 unfolding commandOf
@@ -153,8 +153,8 @@ returns-15 c =
     sym (ap (λ (m : Name). commandAs m (a .line .now) (tailOf (a .line .now))) (told nameOf (head .ensures)
     (name-of .ensures) (c .enum-told15 .given .1)))
 
-pub read-spec : {M : Type 1} → statement M
-read-spec =
+pub command-of-spec : {M : Type 1} → statement M
+command-of-spec =
     tie.close
     (tie.spec
     (λ c κs. search needs) (λ c κs. search needs) (λ c κs. search needs) (λ c. search needs) (λ c κs. search needs)
