@@ -2,3 +2,4 @@
 pub mod Ready
 pub mod Served
 pub mod Whole
+pub mod Shrinking

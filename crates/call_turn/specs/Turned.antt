@@ -1,9 +1,11 @@
 -- What a turn gives from what it decides: the call's result, the queue and the room.
-use Prim.Native.Nat.{ℕ}
+use Prim.Native.Nat.{ℕ, _≤_}
 use mathlib.Core.List.{List}
 use Rattle.state.specs.declared.Session.{Session}
 use Rattle.state.specs.declared.Connection.{Connection}
 use Rattle.state.specs.With.{withSession, withLast}
+use Rattle.laws.specs.Result.{Result, ok, refused, violation}
+use Rattle.protocol.specs.Receipt.{Taken}
 use Rattle.protocol.specs.Judge.{Decision}
 use Rattle.laws.specs.Room.{overlaid}
 use Rattle.protocol.specs.Result.{Given, given, ifTaken, turned, turnPayload, writtenBy}
@@ -11,6 +13,12 @@ use Rattle.protocol.specs.Result.{Given, given, ifTaken, turned, turnPayload, w
 -- the number that is served gets another session and is served last
 abbrev pub withServed : Connection → ℕ → Session → Connection
 withServed c n x = withLast n (withSession n x c)
+
+-- a step that is taken leaves no more bytes waiting
+abbrev pub Shrinks : ℕ → Result Taken → Type 0
+Shrinks waiting (ok t) = t .session .waiting ≤ waiting
+Shrinks waiting (refused k) = Unit {0}
+Shrinks waiting (violation k) = Unit {0}
 
 abbrev pub turnGives : Connection → List ℕ → List ℕ → Decision → Given × List ℕ × List ℕ
 turnGives c queue room d =

@@ -24,7 +24,7 @@ ghost use Rattle.protocol.specs.Call.{serving};
 ghost use Rattle.protocol.specs.Result.{calledAs, decided};
 ghost use Rattle.session.specs.Step.{steppedAs};
 ghost use Rattle.call_checks.specs.Deciding.{decision};
-ghost use Rattle.call_turn.specs.Turned.{withServed, turnGives};
+ghost use Rattle.call_turn.specs.Turned.{withServed, Shrinks, turnGives};
 
 // The connection with another session for the number that is served, and that number served last.
 fn with_served(c: Connection, n: u8, x: Session) -> Connection
@@ -51,12 +51,10 @@ fn reported(c: Connection, n: u8, wrote: usize) -> Called
 
 // How many bytes fewer wait.
 fn fewer(before: u16, after: u16) -> u16
+    requires { ⌜ after ≤ before ⌝ }
     ensures { λ r. ⌜ r ≡ before - after ⌝ }
 {
-    if after <= before {
-        return before - after;
-    }
-    0
+    before - after
 }
 
 // The message is written with the first bytes of the slot, and then they leave the slot.
@@ -68,7 +66,7 @@ fn conclude_turn(
     queue: &mut [u8],
     room: &mut [u8],
 ) -> Called
-    requires { ⌜ (n < 128) × (waiting ≡ at c n .waiting) × (waiting ≤ slotSize) × (length (now queue) ≡ queueSize) × (turnRoom ≤ length (now room)) ⌝ }
+    requires { ⌜ (n < 128) × (waiting ≡ at c n .waiting) × (waiting ≤ slotSize) × (length (now queue) ≡ queueSize) × (turnRoom ≤ length (now room)) × Shrinks waiting (steppedAs stepped) ⌝ }
     ensures { λ r. ⌜ (calledAs r, now (queue .exit), now (room .exit)) ≡ turnGives c (now (queue .entry)) (now (room .entry)) (decision (setting-session c n n (served n)) (steppedAs stepped)) ⌝ }
 {
     match stepped {

@@ -5,6 +5,12 @@ use Rattle.call_turn.proofs.Served.{turn-taken, turn-refused}
 use Rattle.call_turn.proofs.serving.conclude_turn.Statement.{statement}
 use Rattle.call_turn.proofs.serving.conclude_turn.Tie as tie
 
+fewer-requires : tie.Need-fewer-requires
+fewer-requires c κs =
+    let taken = c .before .before .before .before .before .before .before .before .before .before in
+    let start = taken .before .before .before .before in
+    rw (taken .stepped .given .1) at (start .pre .5)
+
 returns : tie.Need-returns
 returns c =
     let gone = c .before .before .before .before in
@@ -28,5 +34,5 @@ conclude-turn-spec =
     (tie.spec
     (λ c. search needs) (λ c. search needs) (λ c. search needs) (λ c. search needs) (λ c. search needs)
     (λ c κs. search needs) (λ c. search needs) (λ c. search needs) (λ c. search needs) (λ c κs. search needs)
-    (λ c κs. search needs) (λ c κs. search needs) (λ c κs. search needs) (λ c κs. search needs) (λ c. search needs)
+    fewer-requires (λ c κs. search needs) (λ c κs. search needs) (λ c κs. search needs) (λ c. search needs)
     (λ c κs. search needs) (λ c. search needs) (λ c. search needs) returns returns-2)

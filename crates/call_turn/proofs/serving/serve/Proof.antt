@@ -9,6 +9,7 @@ use Rattle.protocol.specs.Judge.{served, setting-session}
 use Rattle.call_checks.specs.Deciding.{decision}
 use Rattle.call_checks.proofs.Calls.{step}
 use Rattle.call_turn.specs.Turned.{turnGives}
+use Rattle.call_turn.proofs.Shrinking.{turn-shrinks}
 use Rattle.call_turn.proofs.serving.serve.Statement.{statement}
 use Rattle.call_turn.proofs.serving.serve.Tie as tie
 
@@ -17,7 +18,8 @@ conclude-turn-requires c κs =
     let x = c .before .before .before .before .before in
     let start = x .before .before .before in
     let same = ap (λ (y : Session). y .waiting) (x .session-at .ensures) in
-    (start .pre .0, same, rw (x .session-at .ensures) (start .pre .1), start .pre .2, start .pre .3)
+    let turn = c .before .before in
+    (start .pre .0, same, rw (x .session-at .ensures) (start .pre .1), start .pre .2, start .pre .3, rw (turn .step-turn .ensures) (turn-shrinks _ _ _))
 
 returns : tie.Need-returns
 returns c =
