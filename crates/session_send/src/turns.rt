@@ -15,7 +15,7 @@ ghost use mathlib.Core.List.{[], _∷_};
 ghost use Prim.Native.Nat.{_≤_};
 ghost use Rattle.protocol.specs.Message.{data-of};
 ghost use Rattle.protocol.specs.Plan.{check};
-ghost use Rattle.protocol.specs.Ask.{positive as Ask·positive, due as Ask·due, readySession as Ask·ready, sendable as Ask·smaller, sending as Ask·sending, turnOf, turnAsk};
+ghost use Rattle.protocol.specs.Ask.{positive as Ask·positive, due as Ask·due, readySession, sendable, sending as Ask·sending, turnOf, turnAsk};
 ghost use Rattle.session.specs.Step.{sentAs, steppedAs, toStepped};
 
 // Whether a ration is above 0.
@@ -40,7 +40,7 @@ fn due(waiting: u16, outbound: Ration, finish: bool) -> bool
 
 // Whether a turn may serve the session.
 pub fn ready(x: Session) -> bool
-    ensures { λ r. ⌜ r ≡ Ask·ready x ⌝ }
+    ensures { λ r. ⌜ r ≡ readySession x ⌝ }
 {
     let sides = x.sides;
     let outbound = x.outbound;
@@ -57,7 +57,7 @@ pub fn ready(x: Session) -> bool
 
 // The smaller of what waits and a ration.
 fn smaller(waiting: u16, r: Ration) -> u16
-    ensures { λ n. ⌜ (n ≡ Ask·smaller waiting r) × (n ≤ waiting) ⌝ }
+    ensures { λ n. ⌜ (n ≡ sendable waiting r) × (n ≤ waiting) ⌝ }
 {
     match r {
         Ration::Finite(left) => {
@@ -79,7 +79,7 @@ fn message(length: u16, opens: bool, eof: bool) -> Sent
 
 // A Data message goes out with as many of the bytes that wait as the ration allows.
 fn send(x: Session, opens: bool, theirs: Side, outbound: Ration, inbound: Ration) -> Stepped
-    ensures { λ r. ⌜ steppedAs r ≡ toStepped (Ask·sending x opens theirs outbound inbound (Ask·smaller (x .waiting) outbound)) ⌝ }
+    ensures { λ r. ⌜ steppedAs r ≡ toStepped (Ask·sending x opens theirs outbound inbound (sendable (x .waiting) outbound)) ⌝ }
 {
     let n = smaller(x.waiting, outbound);
     let spent = outbound.spend(n as u32);
@@ -102,7 +102,7 @@ fn send(x: Session, opens: bool, theirs: Side, outbound: Ration, inbound: Ration
 
 // Serves a session whose own side is open.
 fn turn_open(x: Session, theirs: Side) -> Stepped
-    ensures { λ r. ⌜ steppedAs r ≡ toStepped (check (not (Ask·due (x .waiting) (x .outbound) (x .finish))) 9 (Ask·sending x false theirs (x .outbound) (x .inbound) (Ask·smaller (x .waiting) (x .outbound)))) ⌝ }
+    ensures { λ r. ⌜ steppedAs r ≡ toStepped (check (not (Ask·due (x .waiting) (x .outbound) (x .finish))) 9 (Ask·sending x false theirs (x .outbound) (x .inbound) (sendable (x .waiting) (x .outbound)))) ⌝ }
 {
     let outbound = x.outbound;
     let inbound = x.inbound;

@@ -1,4 +1,4 @@
--- A session and a connection with some of their parts set: the only places that name every part.
+-- A session and a connection with some of their parts set. A blank session and a fresh connection are in `New`; no other definition names every part.
 use Prim.Native.Nat.{ℕ}
 use mathlib.Core.Bool.{Bool}
 use mathlib.Core.List.{List}
