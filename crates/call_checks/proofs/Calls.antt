@@ -13,7 +13,7 @@ use Rattle.wire.specs.declared.Message.{Message}
 use Rattle.state.specs.declared.Connection.{Connection}
 use Rattle.protocol.specs.Plan.{Plan, stop, check, take, settle, andThen}
 use Rattle.protocol.specs.Receipt.{Taken}
-use Rattle.protocol.specs.Judge.{done, own-header, sent, Effect, refuse, accept, commit}
+use Rattle.protocol.specs.Judge.{done, header-out, sent, Effect, refuse, accept, commit}
 use Rattle.protocol.specs.Call.{running, upAndRunning, roomFor}
 use Rattle.laws.specs.Room.{overlaid, atFront}
 use Rattle.protocol.specs.Result.{Given, given, bytesOfAll, inRoom, decided}
@@ -112,7 +112,7 @@ refusing-in c room e = rw e
 pub four : (m : Message) (room : List ℕ) → 4 ≤ length room → length (bytesOfAll [] (sent m ∷ [])) ≤ length room
 four m room h = rw one-message h
 
-pub eight : (n : ℕ) (room : List ℕ) → 8 ≤ length room → length (bytesOfAll [] (own-header n ∷ [])) ≤ length room
+pub eight : (n : ℕ) (room : List ℕ) → 8 ≤ length room → length (bytesOfAll [] (header-out n ∷ [])) ≤ length room
 unfolding bytesOfAll
 eight n room h = h
 

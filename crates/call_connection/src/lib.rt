@@ -1,8 +1,8 @@
 // The calls on the connection as a whole: start, ping, shutdown and lost line.
 mod ending;
-mod going;
+mod starting;
 
 pub use ending::lost_line;
 pub use ending::shutdown;
-pub use going::ping;
-pub use going::start;
+pub use starting::ping;
+pub use starting::start;

@@ -7,7 +7,7 @@ use lib.ListN.{length, take, drop, length-append, length-drop, drop-of-length-le
 use lib.Seq.{take-all, take-append-seam, drop-append-seam, drop-drop}
 use borrow.Rule.Slice.PartMut.{putMid}
 use Rattle.wire.specs.declared.Message.the-variants as msg
-use Rattle.protocol.specs.Judge.{own-header, sent}
+use Rattle.protocol.specs.Judge.{header-out, sent}
 use Rattle.laws.specs.Room.{overlaid, atFront}
 use Rattle.protocol.specs.Result.{bytesOfAll}
 use Rattle.connection_output.specs.declared.Outgoing.the-variants as outgoing
@@ -47,13 +47,13 @@ module _ (first second room : List ℕ) (h : length first + length second ≤ le
       ∙ ap (λ (k : ℕ). (first ++ second) ++ drop k room) (sym (length-append first second))
 
 pub header-error : (own : ℕ) (room : List ℕ) → 12 ≤ length room → {a b : ℕ} {mid part : List ℕ}
-    → (a, mid) ≡ atFront (bytesOfAll [] (own-header own ∷ [])) room
+    → (a, mid) ≡ atFront (bytesOfAll [] (header-out own ∷ [])) room
     → (b, part) ≡ atFront (bytesOfAll [] (sent (msg.Error 0) ∷ [])) (take (length mid - 8) (drop 8 mid))
-    → (12, putMid 8 (length mid - 8) mid part) ≡ atFront (bytesOfAll [] (own-header own ∷ sent (msg.Error 0) ∷ [])) room
+    → (12, putMid 8 (length mid - 8) mid part) ≡ atFront (bytesOfAll [] (header-out own ∷ sent (msg.Error 0) ∷ [])) room
 unfolding bytesOfAll
 header-error own room h p q =
-    ap (λ (l : List ℕ). (12, l)) (one-behind (bytesOfAll [] (own-header own ∷ [])) (bytesOfAll [] (sent (msg.Error 0) ∷ [])) room h p q)
-    ∙ sym (fits (bytesOfAll [] (own-header own ∷ sent (msg.Error 0) ∷ [])) room h)
+    ap (λ (l : List ℕ). (12, l)) (one-behind (bytesOfAll [] (header-out own ∷ [])) (bytesOfAll [] (sent (msg.Error 0) ∷ [])) room h p q)
+    ∙ sym (fits (bytesOfAll [] (header-out own ∷ sent (msg.Error 0) ∷ [])) room h)
 
 pub fits-twelve : (r : Reply) → length (bytesOfAll [] (repliesAs r)) ≤ 12
 unfolding bytesOfAll

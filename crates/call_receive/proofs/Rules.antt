@@ -9,9 +9,9 @@ use Rattle.laws.specs.Result.{Result, ok}
 use Rattle.refusal.specs.declared.Refusal.{Refusal}
 use Rattle.refusal.specs.Number.{refusalNumber}
 use Rattle.wire.specs.declared.Role.{Role}
-use Rattle.wire_header.specs.declared.ReadHeader.{ReadHeader}
-use Rattle.wire_header.specs.declared.ReadHeader.the-variants as read-header
-use Rattle.wire_header.specs.Answer.{headerReadAs}
+use Rattle.wire_connection_header.specs.declared.ReadHeader.{ReadHeader}
+use Rattle.wire_connection_header.specs.declared.ReadHeader.the-variants as read-header
+use Rattle.wire_connection_header.specs.Answer.{headerReadAs}
 use Rattle.state.specs.declared.Stage.{Stage}
 use Rattle.state.specs.declared.Stage.the-variants as stage
 use Rattle.state.specs.declared.Connection.{Connection}

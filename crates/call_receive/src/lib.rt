@@ -2,7 +2,7 @@
 mod readings;
 mod replies;
 
-use crate::readings::read;
+use crate::readings::decide;
 use crate::replies::replied;
 use call_checks::Gate;
 use call_checks::further;
@@ -45,7 +45,7 @@ pub fn receive(c: Connection, input: &[u8], room: &mut [u8]) -> Called
 {
     let gate = to_receive(c, room.len());
     match gate {
-        Gate::Passed => replied(read(c, input), room),
+        Gate::Passed => replied(decide(c, input), room),
         Gate::Refused(refusal) => refused(c, refusal),
     }
 }

@@ -9,13 +9,13 @@ use state::Answer;
 use state::Connection;
 use state::Stage;
 use wire::Role;
-use wire_header::ReadHeader;
-use wire_header::read_connection_header;
+use wire_connection_header::ReadHeader;
+use wire_connection_header::read_connection_header;
 use wire_read::Read;
 use wire_read::read_message;
 ghost use mathlib.Core.Path.{_≡_};
 ghost use Rattle.protocol.specs.Call.{otherEnd, answering as Call·answering, headerTaken, messageTaken, reading};
-ghost use Rattle.wire_header.specs.Answer.{headerReadAs};
+ghost use Rattle.wire_connection_header.specs.Answer.{headerReadAs};
 ghost use Rattle.wire_read.specs.Answer.{readAs};
 ghost use Rattle.connection_judge.specs.Verdict.{repliesAs, verdictAs, verdict};
 
@@ -69,7 +69,7 @@ fn other_end(role: Role) -> Role
 }
 
 // Reads what the stage of the connection has next.
-pub(crate) fn read(c: Connection, input: &[u8]) -> Judged
+pub(crate) fn decide(c: Connection, input: &[u8]) -> Judged
     ensures { λ r. ⌜ verdictAs r ≡ verdict c (reading c (now (input .entry)) (c .stage)) ⌝ }
 {
     let stage = c.stage;

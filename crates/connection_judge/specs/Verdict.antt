@@ -4,7 +4,7 @@ use Rattle.laws.specs.Result.{Result, ok, refused, violation}
 use Rattle.wire.specs.declared.Message.the-variants as msg
 use Rattle.state.specs.declared.Connection.{Connection}
 use Rattle.protocol.specs.Connection.{ended}
-use Rattle.protocol.specs.Judge.{Report, Output, own-header, sent, Decision, refuse, violate, accept, commit}
+use Rattle.protocol.specs.Judge.{Report, Output, header-out, sent, Decision, refuse, violate, accept, commit}
 use Rattle.protocol.specs.Result.{answerAs}
 use Rattle.connection_output.specs.Outgoing.{outsAs}
 use Rattle.connection_judge.specs.declared.Reply.{Reply}
@@ -24,7 +24,7 @@ verdict c (accept e) = record { connection = commit c e; answer = ok (e .report)
 
 abbrev pub repliesAs : Reply → List Output
 repliesAs (reply.Only o) = outsAs o
-repliesAs (reply.HeaderError n) = own-header n ∷ sent (msg.Error 0) ∷ []
+repliesAs (reply.HeaderError n) = header-out n ∷ sent (msg.Error 0) ∷ []
 
 abbrev pub verdictAs : Judged → Verdict
 verdictAs j = record { connection = j .connection; answer = answerAs (j .answer); outs = repliesAs (j .reply) }

@@ -23,10 +23,14 @@ use state::Ping;
 use wire::Message;
 use wire_fields::effective_increment;
 ghost use mathlib.Core.Path.{_≡_};
-ghost use mathlib.Core.Bool.{Bool};
+ghost use mathlib.Core.Bool.{Bool, false};
+ghost use Rattle.connection.specs.Cause.{causeAs};
 ghost use Rattle.wire.specs.declared.Message.the-variants.{PingAck};
-ghost use Rattle.protocol.specs.Message.{data-of, whole, of-session};
-ghost use Rattle.protocol.specs.Judge.{matches as Judge·matches, judgeScope, judge as Judge·judge};
+ghost use mathlib.Core.List.{[]};
+ghost use Rattle.laws.specs.Result.{ok};
+ghost use Rattle.protocol.specs.Message.{data-of, increment-of, abort-of, close-of, acknowledgment-of, whole, of-session};
+ghost use Rattle.protocol.specs.Connection.{ended as Connection·ended};
+ghost use Rattle.protocol.specs.Judge.{message, matches as Judge·matches, judgeScope, judge as Judge·judge};
 ghost use Rattle.session_receive.specs.Receipt.{receiptAs};
 ghost use Rattle.connection_judge.specs.Verdict.{verdictAs, verdict};
 ghost use Rattle.connection_judge.specs.Stepped.{judgedBy};
@@ -67,7 +71,48 @@ fn judge_receipt(c: Connection, m: Message, n: u8, receipt: Receipt) -> Judged
     }
 }
 
-// Data for the session of a number, as what the receive comes to.
+// The connection ends by a message of the far end's.
+fn judge_end(c: Connection, m: Message, cause: Cause) -> Judged
+    ensures { λ r. ⌜ verdictAs r ≡ record { connection = Connection·ended (causeAs cause) c; answer = ok (message m false); outs = [] } ⌝ }
+{
+    taken(ended(c, cause), m, false, Outgoing::Nothing)
+}
+
+// An IncrementRation of an effective amount for the session of a number.
+fn judge_increment(c: Connection, m: Message, session: u8, amount: u32) -> Judged
+    ensures { λ r. ⌜ verdictAs r ≡ verdict c (judgeScope c m (of-session session (increment-of amount))) ⌝ }
+{
+    let receipt = receive_increment(session_at(c, session), amount);
+    judge_receipt(c, m, session, receipt)
+}
+
+// An Abort for the session of a number.
+fn judge_abort(c: Connection, m: Message, session: u8, partial: bool) -> Judged
+    ensures { λ r. ⌜ verdictAs r ≡ verdict c (judgeScope c m (of-session session (abort-of partial))) ⌝ }
+{
+    let stage = c.stage;
+    let receipt = receive_abort(role_of(stage), session_at(c, session), partial);
+    judge_receipt(c, m, session, receipt)
+}
+
+// A Close for the session of a number.
+fn judge_close(c: Connection, m: Message, session: u8) -> Judged
+    ensures { λ r. ⌜ verdictAs r ≡ verdict c (judgeScope c m (of-session session close-of)) ⌝ }
+{
+    let stage = c.stage;
+    let receipt = receive_close(role_of(stage), session_at(c, session));
+    judge_receipt(c, m, session, receipt)
+}
+
+// An Acknowledgment for the session of a number.
+fn judge_acknowledgment(c: Connection, m: Message, session: u8) -> Judged
+    ensures { λ r. ⌜ verdictAs r ≡ verdict c (judgeScope c m (of-session session acknowledgment-of)) ⌝ }
+{
+    let receipt = receive_acknowledgment(session_at(c, session));
+    judge_receipt(c, m, session, receipt)
+}
+
+// Data for the session of a number.
 fn judge_data(
     c: Connection,
     m: Message,
@@ -100,47 +145,27 @@ fn judge_data(
 pub fn judge(c: Connection, m: Message) -> Judged
     ensures { λ r. ⌜ verdictAs r ≡ verdict c (Judge·judge c m) ⌝ }
 {
-    let stage = c.stage;
     match m {
         Message::NoOperation { .. } => taken(c, m, false, Outgoing::Nothing),
-        Message::Shutdown { .. } => {
-            let next = ended(c, Cause::ShutdownReceived);
-            taken(next, m, false, Outgoing::Nothing)
-        }
+        Message::Shutdown { .. } => judge_end(c, m, Cause::ShutdownReceived),
         Message::Ping { cookie } => {
             let ack = Outgoing::Message(Message::PingAck { cookie });
             taken(c, m, false, ack)
         }
         Message::PingAck { cookie } => judge_ping_ack(c, cookie),
-        Message::Error { .. } => {
-            let next = ended(c, Cause::ErrorReceived);
-            taken(next, m, false, Outgoing::Nothing)
-        }
+        Message::Error { .. } => judge_end(c, m, Cause::ErrorReceived),
         Message::IncrementRation {
             shift,
             session,
             increment,
-        } => {
-            let amount = effective_increment(shift, increment);
-            let receipt = receive_increment(session_at(c, session), amount);
-            judge_receipt(c, m, session, receipt)
-        }
+        } => { judge_increment(c, m, session, effective_increment(shift, increment)) }
         Message::Abort {
             partial,
             session,
             ..
-        } => {
-            let receipt = receive_abort(role_of(stage), session_at(c, session), partial);
-            judge_receipt(c, m, session, receipt)
-        }
-        Message::Close { session } => {
-            let receipt = receive_close(role_of(stage), session_at(c, session));
-            judge_receipt(c, m, session, receipt)
-        }
-        Message::Acknowledgment { session } => {
-            let receipt = receive_acknowledgment(session_at(c, session));
-            judge_receipt(c, m, session, receipt)
-        }
+        } => judge_abort(c, m, session, partial),
+        Message::Close { session } => judge_close(c, m, session),
+        Message::Acknowledgment { session } => judge_acknowledgment(c, m, session),
         Message::Data {
             open,
             close,

@@ -15,7 +15,7 @@ use Rattle.laws.proofs.Rooms.{fits, both}
 use Rattle.wire.specs.declared.Message.{Message}
 use Rattle.wire.specs.Message.{header, bodyLength, firstByte, secondByte, numberOf}
 use Rattle.wire.specs.Connection.{connectionHeader, writeConnectionHeader}
-use Rattle.protocol.specs.Judge.{Output, own-header, sent}
+use Rattle.protocol.specs.Judge.{Output, header-out, sent}
 use Rattle.protocol.specs.Result.{bytesOfAll}
 
 -- nothing is written
@@ -57,10 +57,10 @@ module _ {k : ℕ} {last : List ℕ} (size : ℕ) (bytes room : List ℕ) where
   wrote-none false q = both refl (ap (λ (p : Result ℕ × List ℕ). p .1) q)
 
 module _ (n : ℕ) (payload room : List ℕ) where
-  pub header-wrote : {k : ℕ} {last : List ℕ} → (ok k, last) ≡ writeConnectionHeader n room → (k, last) ≡ atFront (bytesOfAll payload (own-header n ∷ [])) room
+  pub header-wrote : {k : ℕ} {last : List ℕ} → (ok k, last) ≡ writeConnectionHeader n room → (k, last) ≡ atFront (bytesOfAll payload (header-out n ∷ [])) room
   unfolding writeConnectionHeader atFront bytesOfAll
   header-wrote e = wrote 8 (overlaid (connectionHeader n) room) room (leb 8 (length room)) e
 
-  pub header-refused : {k : ℕ} {last : List ℕ} → (refused k, last) ≡ writeConnectionHeader n room → (0, last) ≡ atFront (bytesOfAll payload (own-header n ∷ [])) room
+  pub header-refused : {k : ℕ} {last : List ℕ} → (refused k, last) ≡ writeConnectionHeader n room → (0, last) ≡ atFront (bytesOfAll payload (header-out n ∷ [])) room
   unfolding writeConnectionHeader atFront bytesOfAll
   header-refused e = wrote-none 8 (overlaid (connectionHeader n) room) room (leb 8 (length room)) e

@@ -1,9 +1,9 @@
 // What one end writes at its own calls and replies, and the writing of it at the front of a lent room.
 use session::Sent;
 use wire::Message;
+use wire_connection_header::Written;
+use wire_connection_header::write_connection_header;
 use wire_fields::body_length;
-use wire_header::Written;
-use wire_header::write_connection_header;
 use wire_write::put_message;
 ghost use mathlib.Core.Path.{_≡_};
 ghost use mathlib.Core.List.{[], map};

@@ -1,4 +1,4 @@
-// The front door of the engine: the types that a user names, and the twelve calls.
+// The engine for a user: the types that a user names, and the twelve calls.
 pub use call_connection::lost_line;
 pub use call_connection::ping;
 pub use call_connection::shutdown;

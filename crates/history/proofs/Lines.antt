@@ -27,7 +27,7 @@ use Rattle.state.specs.declared.Ping.the-variants as ping
 use Rattle.protocol.specs.Queue.{slot}
 use Rattle.protocol.specs.Message.{whole, scope}
 use Rattle.protocol.specs.Connection.{own-shutdown, line-lost, at, roleOf, exchanged, farNumber, farStart, placed, ending}
-use Rattle.protocol.specs.Judge.{Report, done, Output, own-header, sent, Ending, goes-on, ends, Effect, accept, commit}
+use Rattle.protocol.specs.Judge.{Report, done, Output, header-out, sent, Ending, goes-on, ends, Effect, accept, commit}
 use Rattle.protocol.specs.Call.{startRule, pingRule, shutdownRule, lostRule, isFresh}
 use Rattle.protocol.specs.Result.{bytesOfAll}
 use Rattle.protocol.specs.Observed.{Event, observe, Seen, isReady}
@@ -49,7 +49,7 @@ use Rattle.laws.proofs.Runs.{still}
 -- ---- what is written is of no session
 
 -- a connection header is no message
-pub header-no-message : (r : Role) (payload : List ℕ) (own n : ℕ) → writtenMessage n (readMessage r (bytesOfAll payload (own-header own ∷ []))) ≡ []
+pub header-no-message : (r : Role) (payload : List ℕ) (own n : ℕ) → writtenMessage n (readMessage r (bytesOfAll payload (header-out own ∷ []))) ≡ []
 unfolding bytesOfAll readMessage parseHeader typed kindOf pick
 header-no-message r payload own n = refl
 
@@ -204,7 +204,7 @@ module _ (s : State) (o : Ok (setupOf (s .connection)) s) where
   pub start-good : (room : List ℕ) → Takes (Good (setupOf (s .connection)) s (start room)) (startRule (s .connection) (length room))
   unfolding startRule Every
   start-good room _ live _ server fresh =
-      line-good (start room) stage.Started (s .connection .ping) goes-on done (own-header (s .connection .own) ∷ []) refl refl
+      line-good (start room) stage.Started (s .connection .ping) goes-on done (header-out (s .connection .own) ∷ []) refl refl
       (client-is (roleOf (s .connection .stage)) server) (omega arith) (inr (fresh-not-up (s .connection .stage) (not-false _ fresh)))
       (λ m. header-no-message (roleOf (s .connection .stage)) [] (s .connection .own) m) refl live refl refl
       (λ _. opening-read-back (roleOf (s .connection .stage)) (s .connection .own) [] [] (o .header) (nothing-read-back (roleOf (s .connection .stage)) []))

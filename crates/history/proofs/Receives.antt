@@ -29,7 +29,7 @@ use Rattle.protocol.specs.Plan.{Plan, settle}
 use Rattle.protocol.specs.Message.{SessionMessage, Scope, whole, of-session, scope, numbered}
 use Rattle.protocol.specs.Receipt.{Taken, receipt}
 use Rattle.protocol.specs.Connection.{shutdown-received, error-received, line-lost, at, roleOf, exchanged, farStart, ownStart}
-use Rattle.protocol.specs.Judge.{header-received, message, Output, own-header, sent, Ending, goes-on, ends, Decision, refuse, violate, accept, setting-session, continued, errorAfter, breach, judgeWhole, judgeScope, judge}
+use Rattle.protocol.specs.Judge.{header-received, message, Output, header-out, sent, Ending, goes-on, ends, Decision, refuse, violate, accept, setting-session, continued, errorAfter, breach, judgeWhole, judgeScope, judge}
 use Rattle.protocol.specs.Call.{otherEnd, unstarted, answering, headerTaken, messageTaken, reading, receiveGate, receiveRule}
 use Rattle.protocol.specs.Result.{bytesOfAll}
 use Rattle.protocol.specs.Observed.{Event, received, repliesTo, mayArrive, wrongNumber}
@@ -160,7 +160,7 @@ module _ (s : State) (o : Ok (setupOf (s .connection)) s) (input room : List ℕ
   answers role.Client n = nothing-read role.Client [] n
   answers role.Server n = header-no-message role.Server [] (s .connection .own) n
 
-  answers-mean : (r : Role) → answering r (s .connection .own) ≡ pick (isServer r) (own-header (s .connection .own) ∷ []) [] ++ []
+  answers-mean : (r : Role) → answering r (s .connection .own) ≡ pick (isServer r) (header-out (s .connection .own) ∷ []) [] ++ []
   unfolding pick
   answers-mean role.Client = refl
   answers-mean role.Server = refl
@@ -182,7 +182,7 @@ module _ (s : State) (o : Ok (setupOf (s .connection)) s) (input room : List ℕ
       (header-number input far q) (inr up)
       (λ n. subst (λ (z : Role). writtenMessage n (readMessage z (bytesOfAll [] (answering r (s .connection .own)))) ≡ []) (sym er) (answers r n))
       refl live refl
-      (answers-mean r ∙ sym (ap (λ (z : Role). pick (isServer z) (own-header (s .connection .own) ∷ []) [] ++ []) er))
+      (answers-mean r ∙ sym (ap (λ (z : Role). pick (isServer z) (header-out (s .connection .own) ∷ []) [] ++ []) er))
       (λ _. subst (λ (z : Role). ReadInOrder z (bytesOfAll [] (answering r (s .connection .own))) (answering r (s .connection .own))) (sym er) (answers-read r))
       (answers-go r far er greets) refl
   header-good r er up greets (refused n) q = tt

@@ -16,7 +16,7 @@ use Rattle.state.specs.declared.Stage.{Stage}
 use Rattle.state.specs.declared.Stage.the-variants as stage
 use Rattle.state.specs.declared.Setup.{Setup}
 use Rattle.protocol.specs.Connection.{roleOf}
-use Rattle.protocol.specs.Judge.{Output, own-header, sent, Breach, Decision, refuse, violate, accept, errorAfter}
+use Rattle.protocol.specs.Judge.{Output, header-out, sent, Breach, Decision, refuse, violate, accept, errorAfter}
 use Rattle.protocol.specs.Result.{bytesOfAll}
 use Rattle.protocol.proofs.Views.{greetingOf}
 use Rattle.history.specs.Log.{Call, State, Entry, decide, payloadOf, outBy, out}
@@ -37,7 +37,7 @@ pub record Speaks (s : Setup) (a : Account) (e : Entry) : Type 0 where
 
 -- ---- the answer to a violation
 
-error-means : (st : Stage) (own : ℕ) → errorAfter st own ≡ pick (ungreeted (greetingOf st)) (own-header own ∷ []) [] ++ (sent (msg.Error 0) ∷ [])
+error-means : (st : Stage) (own : ℕ) → errorAfter st own ≡ pick (ungreeted (greetingOf st)) (header-out own ∷ []) [] ++ (sent (msg.Error 0) ∷ [])
 unfolding pick
 error-means (stage.Fresh r) own = refl
 error-means stage.Started own = refl

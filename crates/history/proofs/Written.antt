@@ -18,7 +18,7 @@ use Rattle.wire.specs.Message.{maySend, flagsAllowed, kindOfMessage, effectiveI
 use Rattle.wire.proofs.Laws.{read-written}
 use Rattle.wire.proofs.ConnectionLaws.{header-read-written}
 use Rattle.protocol.specs.Message.{SessionMessage, data-of, increment-of, abort-of, close-of, acknowledgment-of, of-session, scope, numbered}
-use Rattle.protocol.specs.Judge.{Output, own-header, sent}
+use Rattle.protocol.specs.Judge.{Output, header-out, sent}
 use Rattle.protocol.specs.Result.{bytesOf, bytesOfAll}
 use Rattle.protocol.specs.Observed.{Event, wrote, fromRole}
 use Rattle.protocol.proofs.Sound.{Fits, carried}
@@ -63,7 +63,7 @@ sent-read-back r m payload w = (sent-read r m payload w, sent-length m payload (
 
 -- a connection header, and what follows it
 pub opening-read-back : (r : Role) (n : ℕ) (payload : List ℕ) (outs : List Output) → n < 65_536 → ReadInOrder r (bytesOfAll payload outs) outs
-    → ReadInOrder r (bytesOfAll payload (own-header n ∷ outs)) (own-header n ∷ outs)
+    → ReadInOrder r (bytesOfAll payload (header-out n ∷ outs)) (header-out n ∷ outs)
 unfolding ReadInOrder bytesOfAll
 opening-read-back r n payload outs h k = (header-read-written n (bytesOfAll payload outs) h, k)
 

@@ -14,7 +14,7 @@ use Rattle.wire.specs.Message.{isClient, isServer, bodyLength, readMessage}
 use Rattle.wire.specs.Connection.{readConnectionHeader}
 use Rattle.state.specs.declared.Setup.{Setup}
 use Rattle.protocol.specs.Message.{SessionMessage, increment-of, abort-of, close-of, Scope, whole, of-session, scope, numbered}
-use Rattle.protocol.specs.Judge.{Report, done, served, header-received, message, Output, own-header, sent}
+use Rattle.protocol.specs.Judge.{Report, done, served, header-received, message, Output, header-out, sent}
 use Rattle.protocol.specs.Observed.{Greeting, no-header, own-header, both-headers, greeted, Seen, repliesTo, dueData, mayWrite, fromRole}
 use Rattle.protocol.specs.Asked.{isUnsent}
 use Rattle.history.specs.Log.{Call, start, open-session, put, finish, turn, grant, abort, close, ping, shutdown, lost, receive, Entry}
@@ -62,7 +62,7 @@ meantFor r k (message m late) v = answeredIn r v (scope m)
 
 -- of the connection as a whole: a client's start is its header, a ping Ping, a shutdown Shutdown
 abbrev pub askedOfAll : ℕ → Call → List Output
-askedOfAll own (start room) = own-header own ∷ []
+askedOfAll own (start room) = header-out own ∷ []
 askedOfAll own (open-session n) = []
 askedOfAll own (put n bytes) = []
 askedOfAll own (finish n) = []
@@ -92,21 +92,21 @@ answerOfAll (msg.Data o c e a i n) = []
 abbrev pub meantOfAll : Setup → Call → Report → List Output
 meantOfAll s k done = askedOfAll (s .header) k
 meantOfAll s k (served n) = []
-meantOfAll s k (header-received far) = pick (isServer (s .role)) (own-header (s .header) ∷ []) []
+meantOfAll s k (header-received far) = pick (isServer (s .role)) (header-out (s .header) ∷ []) []
 meantOfAll s k (message m late) = answerOfAll m
 
 -- a violation is answered with Error, after our header where that was not sent; a refusal below 20 means nothing
 abbrev pub meantBy : Setup → Account → Call → Result Report → List Output
 meantBy s a k (ok p) = meantOfAll s k p ++ map (λ m. sent (numbered (concerned k (ok p)) m)) (meantFor (s .role) k p (a .seen))
 meantBy s a k (refused n) = []
-meantBy s a k (violation n) = pick (ungreeted (a .line .greeting)) (own-header (s .header) ∷ []) [] ++ (sent (msg.Error 0) ∷ [])
+meantBy s a k (violation n) = pick (ungreeted (a .line .greeting)) (header-out (s .header) ∷ []) [] ++ (sent (msg.Error 0) ∷ [])
 
 -- ---- what is read
 
 -- the other end reads the bytes as these, one after another, and nothing is left over
 unfoldable pub ReadInOrder : Role → List ℕ → List Output → Type 0
 ReadInOrder from bytes [] = bytes ≡ []
-ReadInOrder from bytes (own-header n ∷ outs) = (readConnectionHeader bytes ≡ ok n) × ReadInOrder from (drop 8 bytes) outs
+ReadInOrder from bytes (header-out n ∷ outs) = (readConnectionHeader bytes ≡ ok n) × ReadInOrder from (drop 8 bytes) outs
 ReadInOrder from bytes (sent m ∷ outs) = (readMessage from bytes ≡ ok m) × ReadInOrder from (drop (4 + bodyLength m) bytes) outs
 
 -- ---- what may be written
@@ -167,5 +167,5 @@ messageMayGo s a e m (of-session i x) =
 
 -- nothing goes on a connection that is over, and our header goes once and in its turn
 abbrev pub mayGo : Setup → Account → Entry → Output → Bool
-mayGo s a e (own-header n) = not (a .line .over) && ungreeted (a .line .greeting) && greets (s .role) (e .answer)
+mayGo s a e (header-out n) = not (a .line .over) && ungreeted (a .line .greeting) && greets (s .role) (e .answer)
 mayGo s a e (sent m) = not (a .line .over) && messageMayGo s a e m (scope m)

@@ -16,7 +16,7 @@ use text_line::Line;
 use text_message::with_message;
 use wire::Message;
 use wire::Role;
-use wire_header::ReadHeader;
+use wire_connection_header::ReadHeader;
 
 // Whose direction the argument names.
 enum Sender {
@@ -74,7 +74,7 @@ fn put_refusal(place: usize, number: u8) -> bool {
 
 // The connection header, by its number; nothing else depends on it.
 fn put_header(capture: &[u8]) {
-    match wire_header::read_connection_header(capture) {
+    match wire_connection_header::read_connection_header(capture) {
         ReadHeader::Number(n) => put(at(0).text(b" header ").number(n as u64).text(b"\n")),
         ReadHeader::Incomplete => {
             put_refusal(0, Refusal::Incomplete.number());

@@ -21,7 +21,7 @@ use Rattle.protocol.specs.Plan.{Plan, check, take, settle, andThen}
 use Rattle.protocol.specs.Receipt.{Taken}
 use Rattle.protocol.specs.Ask.{openAsk, putAsk, finishAsk, grantAsk, abortAsk, closeAsk, turnAsk, readySession}
 use Rattle.protocol.specs.Connection.{own-shutdown, line-lost, at, roleOf, exchanged, ownStart, farStart, wellFormed}
-use Rattle.protocol.specs.Judge.{done, served, header-received, Output, own-header, sent, Effect, Decision, refuse, accept, setting-stage, setting-ping, setting-session, ends-by, breach, judge}
+use Rattle.protocol.specs.Judge.{done, served, header-received, Output, header-out, sent, Effect, Decision, refuse, accept, setting-stage, setting-ping, setting-session, ends-by, breach, judge}
 
 -- ---- the checks that calls share
 
@@ -61,7 +61,7 @@ startRule c room =
     running c
     (roomFor 8 room
     (check (isServer (roleOf (c .stage))) 4
-    (check (not (isFresh (c .stage))) 5 (take (setting-stage c stage.Started done (own-header (c .own) ∷ []))))))
+    (check (not (isFresh (c .stage))) 5 (take (setting-stage c stage.Started done (header-out (c .own) ∷ []))))))
 
 unfoldable pub openRule : Connection → ℕ → Plan Effect
 openRule c n = upAndRunning c (numberIn n (asking c n (openAsk (roleOf (c .stage)) (at c n))))
@@ -121,7 +121,7 @@ otherEnd role.Server = role.Client
 -- a good first header makes a server write its own
 abbrev pub answering : Role → ℕ → List Output
 answering role.Client own = []
-answering role.Server own = own-header own ∷ []
+answering role.Server own = header-out own ∷ []
 
 abbrev pub headerTaken : Connection → Role → Result ℕ → Decision
 headerTaken c r (ok far) = accept (setting-stage c (stage.Up r far) (header-received far) (answering r (c .own)))

@@ -26,7 +26,7 @@ pub data Report : Type 0 where
 
 -- what is written: our connection header, or a message
 pub data Output : Type 0 where
-  own-header : ℕ → Output
+  header-out : ℕ → Output
   sent : Message → Output
 
 -- whether the connection ends with the call
@@ -113,7 +113,7 @@ commit c e =
 
 -- a server that has not sent its header sends it before the Error; a client that is not started receives nothing
 abbrev pub errorAfter : Stage → ℕ → List Output
-errorAfter (stage.Fresh r) own = own-header own ∷ sent (msg.Error 0) ∷ []
+errorAfter (stage.Fresh r) own = header-out own ∷ sent (msg.Error 0) ∷ []
 errorAfter stage.Started own = sent (msg.Error 0) ∷ []
 errorAfter (stage.Up r far) own = sent (msg.Error 0) ∷ []
 

@@ -16,7 +16,7 @@ use Rattle.state.specs.declared.Answer.the-variants as answer
 use Rattle.state.specs.declared.Called.{Called}
 use Rattle.protocol.specs.Plan.{Plan, settle}
 use Rattle.protocol.specs.Connection.{at, ended}
-use Rattle.protocol.specs.Judge.{Report, done, served, header-received, message, Output, own-header, sent, Effect, Decision, refuse, violate, accept, commit}
+use Rattle.protocol.specs.Judge.{Report, done, served, header-received, message, Output, header-out, sent, Effect, Decision, refuse, violate, accept, commit}
 use Rattle.protocol.specs.Queue.{slot, withSlot, putSlot, turnSlot}
 use Rattle.protocol.specs.Call.{startRule, openRule, putRule, finishRule, turnRule, grantRule, abortRule, closeRule, pingRule, shutdownRule, lostRule, receiveRule}
 
@@ -75,7 +75,7 @@ endOf (message m late) = 4 + bodyLength m
 
 -- the bytes of what is written; `payload` holds those that follow a Data header
 abbrev pub bytesOf : List ℕ → Output → List ℕ
-bytesOf payload (own-header n) = connectionHeader n
+bytesOf payload (header-out n) = connectionHeader n
 bytesOf payload (sent m) = wire.header m ++ take (bodyLength m) payload
 
 unfoldable pub bytesOfAll : List ℕ → List Output → List ℕ

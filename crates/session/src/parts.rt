@@ -46,7 +46,7 @@ pub fn sends(sides: Sides) -> bool
 }
 
 // The outcome that follows: only a running one changes.
-pub fn becomes(was: Outcome, new: Outcome) -> Outcome
+fn becomes(was: Outcome, new: Outcome) -> Outcome
     ensures { λ r. ⌜ r ≡ Session·becomes was new ⌝ }
 {
     match was {

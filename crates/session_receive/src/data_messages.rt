@@ -57,11 +57,11 @@ fn data_to_open(role: Role, x: Session, n: u16, close: bool, theirs: Side) -> Re
     let spent = inbound.spend(n as u32);
     match spent {
         Spent::Left(left) => {
-            let next = x.with_rations(outbound, left);
+            let counted = x.with_rations(outbound, left);
             if close {
-                return reply(role, settled(next, Outcome::Complete), theirs);
+                return reply(role, settled(counted, Outcome::Complete), theirs);
             }
-            taken(next.with_sides(Sides::Live(Side::Open, theirs)), false)
+            taken(counted.with_sides(Sides::Live(Side::Open, theirs)), false)
         }
         Spent::NotEnough => Receipt::Violated(Violation::AboveRation),
     }

@@ -77,7 +77,7 @@ fn message(length: u16, opens: bool, eof: bool) -> Sent
     Sent::Data { length, opens, eof }
 }
 
-// A Data message goes out with as many of the bytes that wait as the ration allows.
+// A Data message goes out with as many of the bytes that wait as the ration allows; so there is always enough to spend.
 fn send(x: Session, opens: bool, theirs: Side, outbound: Ration, inbound: Ration) -> Stepped
     ensures { λ r. ⌜ steppedAs r ≡ toStepped (Ask·sending x opens theirs outbound inbound (sendable (x .waiting) outbound)) ⌝ }
 {

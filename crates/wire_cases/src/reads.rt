@@ -9,7 +9,7 @@ use script_words::tail;
 use text_line::first;
 use wire::Message;
 use wire::Role;
-use wire_header::ReadHeader;
+use wire_connection_header::ReadHeader;
 use wire_read::Read;
 
 // A message that was read, and how many bytes of the input it has.
@@ -70,7 +70,7 @@ fn header_answer(answer: ReadHeader) {
 fn header(digits: &[u8]) {
     let mut bytes = [0u8; 16];
     let n = from_hex(digits, &mut bytes);
-    header_answer(wire_header::read_connection_header(first(&bytes, n)));
+    header_answer(wire_connection_header::read_connection_header(first(&bytes, n)));
 }
 
 // A line of the table, with what its bytes are read as behind it.

@@ -2,7 +2,7 @@
 use crate::show;
 use wire::Message;
 use wire::Role;
-use wire_header::Written;
+use wire_connection_header::Written;
 
 // What was written, and whether the byte after it is still the one that was lent.
 fn wrote(n: usize, room: &[u8]) {
@@ -126,7 +126,7 @@ fn rooms() {
 }
 
 fn header_to(room: &mut [u8], name: &[u8], n: u16) {
-    let w = wire_header::write_connection_header(n, room);
+    let w = wire_connection_header::write_connection_header(n, room);
     show::item(name, n as u64);
     result(w, room);
     show::end();

@@ -4,18 +4,18 @@ use bytes::copy;
 use refusal::Refusal;
 use wire::Message;
 use wire::Role;
+use wire_connection_header::Written;
 use wire_fields::body_length;
 use wire_fields::flags_allowed;
 use wire_fields::kind_of_message;
 use wire_fields::may_send;
 use wire_fields::second_byte;
 use wire_fields::shift_of;
-use wire_header::Written;
 ghost use mathlib.Core.Path.{_≡_};
 ghost use mathlib.Core.List.{_++_};
 ghost use Rattle.laws.specs.Room.{atFront};
 ghost use Rattle.wire.specs.Message.{header, writable, writeMessage};
-ghost use Rattle.wire_header.specs.Answer.{writtenAs};
+ghost use Rattle.wire_connection_header.specs.Answer.{writtenAs};
 
 // Puts the header of a message and a body at the front of a room that holds both, and answers how many bytes they are; a
 // room that is too small stays as lent.

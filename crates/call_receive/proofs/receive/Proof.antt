@@ -18,7 +18,7 @@ returns c =
     let start = gate .before .before in
     let a = start .before .before .before .args in
     passed (a .c) (now (a .input)) (now (a .room)) (start .to-receive .ensures) (gate .enum-told .given .1)
-    (c .before .before .before .before .read .ensures) (c .before .before .replied .ensures)
+    (c .before .before .before .before .decide .ensures) (c .before .before .replied .ensures)
 
 returns-2 : tie.Need-returns-2
 returns-2 c =

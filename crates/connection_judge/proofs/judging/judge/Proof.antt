@@ -2,9 +2,8 @@
 use mathlib.Core.Path.{refl, sym, ap}
 use Prim.Native.Nat.{ℕ}
 use borrow.Author.Needs.{needs}
-use Rattle.protocol.specs.Connection.{roleOf, ownStart, farStart}
-use Rattle.protocol.specs.Message.{whole, of-session, data-of, increment-of, abort-of, close-of, acknowledgment-of}
-use Rattle.connection_judge.proofs.Judgments.{no-operation, shut-down, told-error, pinged, stepped, by-scope, by-parts}
+use Rattle.protocol.specs.Message.{whole, of-session, increment-of}
+use Rattle.connection_judge.proofs.Judgments.{no-operation, shut-down, told-error, pinged, by-scope, by-parts}
 use Rattle.connection_judge.proofs.judging.judge.Statement.{statement}
 use Rattle.connection_judge.proofs.judging.judge.Tie as tie
 
@@ -16,16 +15,15 @@ returns c =
 
 returns-2 : tie.Need-returns-2
 returns-2 c =
-    let told = c .before .before in
+    let told = c .before in
     let a = told .before .before .args in
-    by-scope (a .c) (a .m) whole (told .enum-told2 .given .1) refl
-    (shut-down (a .c) (told .enum-told2 .given .1) (c .before .ended .ensures) (c .taken2 .ensures))
+    by-scope (a .c) (a .m) whole (told .enum-told2 .given .1) refl (shut-down (a .c) (told .enum-told2 .given .1) refl (c .judge-end .ensures))
 
 returns-3 : tie.Need-returns-3
 returns-3 c =
     let told = c .before .before in
     let a = told .before .before .args in
-    by-scope (a .c) (a .m) whole (told .m .given .1) refl (rw (told .m .given .1) (pinged (a .c) _ (c .taken3 .ensures)))
+    by-scope (a .c) (a .m) whole (told .m .given .1) refl (rw (told .m .given .1) (pinged (a .c) _ (c .taken2 .ensures)))
 
 returns-4 : tie.Need-returns-4
 returns-4 c =
@@ -35,53 +33,35 @@ returns-4 c =
 
 returns-5 : tie.Need-returns-5
 returns-5 c =
-    let told = c .before .before in
+    let told = c .before in
     let a = told .before .before .args in
-    by-scope (a .c) (a .m) whole (told .enum-told3 .given .1) refl
-    (told-error (a .c) (told .enum-told3 .given .1) (c .before .ended2 .ensures) (c .taken4 .ensures))
+    by-scope (a .c) (a .m) whole (told .enum-told3 .given .1) refl (told-error (a .c) (told .enum-told3 .given .1) refl (c .judge-end2 .ensures))
 
 returns-6 : tie.Need-returns-6
 returns-6 c =
-    let x = c .before .before in
-    let amount = x .before in
+    let amount = c .before in
     let told = amount .before .before in
     let a = told .before .before .args in
     let i = told .m3 .given .0 .1 .0 in
-    let k = amount .effective-increment .result in
-    by-parts (a .c) (a .m) (of-session i (increment-of k)) (told .m3 .given .1) (ap (λ (n : ℕ). of-session i (increment-of n)) (sym (amount .effective-increment .ensures)))
-    (stepped (a .c) _ i (increment-of k) refl refl refl (x .session-at .ensures)
-    (c .before .receive-increment .ensures (roleOf (a .c .stage)) (ownStart (a .c)) (farStart (a .c))) (c .judge-receipt .ensures))
+    by-parts (a .c) (a .m) _ (told .m3 .given .1) (ap (λ (n : ℕ). of-session i (increment-of n)) (sym (amount .effective-increment .ensures))) (c .judge-increment .ensures)
 
 returns-7 : tie.Need-returns-7
 returns-7 c =
-    let x = c .before .before in
-    let told = x .before .before .before in
+    let told = c .before .before in
     let a = told .before .before .args in
-    let i = told .m4 .given .0 .1 .0 in
-    let partial = told .m4 .given .0 .0 in
-    by-parts (a .c) (a .m) (of-session i (abort-of partial)) (told .m4 .given .1) refl
-    (stepped (a .c) _ i (abort-of partial) (x .before .role-of .ensures) refl refl (x .session-at2 .ensures)
-    (c .before .receive-abort .ensures (ownStart (a .c)) (farStart (a .c))) (c .judge-receipt2 .ensures))
+    by-parts (a .c) (a .m) _ (told .m4 .given .1) refl (c .judge-abort .ensures)
 
 returns-8 : tie.Need-returns-8
 returns-8 c =
-    let x = c .before .before in
-    let told = x .before .before .before in
+    let told = c .before .before in
     let a = told .before .before .args in
-    let i = told .m5 .given .0 .0 in
-    by-parts (a .c) (a .m) (of-session i close-of) (told .m5 .given .1) refl
-    (stepped (a .c) _ i close-of (x .before .role-of2 .ensures) refl refl (x .session-at3 .ensures)
-    (c .before .receive-close .ensures (ownStart (a .c)) (farStart (a .c))) (c .judge-receipt3 .ensures))
+    by-parts (a .c) (a .m) _ (told .m5 .given .1) refl (c .judge-close .ensures)
 
 returns-9 : tie.Need-returns-9
 returns-9 c =
-    let x = c .before .before in
-    let told = x .before .before in
+    let told = c .before .before in
     let a = told .before .before .args in
-    let i = told .m6 .given .0 .0 in
-    by-parts (a .c) (a .m) (of-session i acknowledgment-of) (told .m6 .given .1) refl
-    (stepped (a .c) _ i acknowledgment-of refl refl refl (x .session-at4 .ensures)
-    (c .before .receive-acknowledgment .ensures (roleOf (a .c .stage)) (ownStart (a .c)) (farStart (a .c))) (c .judge-receipt4 .ensures))
+    by-parts (a .c) (a .m) _ (told .m6 .given .1) refl (c .judge-acknowledgment .ensures)
 
 returns-10 : tie.Need-returns-10
 returns-10 c =
@@ -94,11 +74,9 @@ pub judge-spec : {M : Type 1} → statement M
 judge-spec =
     tie.close
     (tie.spec
-    (λ c. search needs) (λ c κs. search needs) (λ c. search needs) (λ c κs. search needs) (λ c κs. search needs)
     (λ c. search needs) (λ c κs. search needs) (λ c. search needs) (λ c κs. search needs) (λ c. search needs)
-    (λ c κs. search needs) (λ c κs. search needs) (λ c. search needs) (λ c κs. search needs) (λ c κs. search needs)
-    (λ c κs. search needs) (λ c κs. search needs) (λ c. search needs) (λ c κs. search needs) (λ c κs. search needs)
-    (λ c κs. search needs) (λ c κs. search needs) (λ c. search needs) (λ c κs. search needs) (λ c κs. search needs)
-    (λ c κs. search needs) (λ c κs. search needs) (λ c. search needs) (λ c κs. search needs) (λ c κs. search needs)
-    (λ c κs. search needs) (λ c. search needs) (λ c κs. search needs) returns returns-2 returns-3 returns-4 returns-5
-    returns-6 returns-7 returns-8 returns-9 returns-10)
+    (λ c κs. search needs) (λ c. search needs) (λ c κs. search needs) (λ c. search needs) (λ c κs. search needs)
+    (λ c. search needs) (λ c κs. search needs) (λ c κs. search needs) (λ c. search needs) (λ c κs. search needs)
+    (λ c. search needs) (λ c κs. search needs) (λ c. search needs) (λ c κs. search needs) (λ c. search needs)
+    (λ c κs. search needs) returns returns-2 returns-3 returns-4 returns-5 returns-6 returns-7 returns-8 returns-9
+    returns-10)
