@@ -28,6 +28,7 @@ ghost use Rattle.connection.specs.Cause.{causeAs};
 ghost use Rattle.wire.specs.declared.Message.the-variants.{PingAck};
 ghost use mathlib.Core.List.{[]};
 ghost use Rattle.laws.specs.Result.{ok};
+ghost use Rattle.wire.specs.Message.{effectiveIncrement};
 ghost use Rattle.protocol.specs.Message.{data-of, increment-of, abort-of, close-of, acknowledgment-of, whole, of-session};
 ghost use Rattle.protocol.specs.Connection.{ended as Connection·ended};
 ghost use Rattle.protocol.specs.Judge.{message, matches as Judge·matches, judgeScope, judge as Judge·judge};
@@ -78,10 +79,11 @@ fn judge_end(c: Connection, m: Message, cause: Cause) -> Judged
     taken(ended(c, cause), m, false, Outgoing::Nothing)
 }
 
-// An IncrementRation of an effective amount for the session of a number.
-fn judge_increment(c: Connection, m: Message, session: u8, amount: u32) -> Judged
-    ensures { λ r. ⌜ verdictAs r ≡ verdict c (judgeScope c m (of-session session (increment-of amount))) ⌝ }
+// An IncrementRation for the session of a number, by its effective amount.
+fn judge_increment(c: Connection, m: Message, session: u8, shift: u8, increment: u16) -> Judged
+    ensures { λ r. ⌜ verdictAs r ≡ verdict c (judgeScope c m (of-session session (increment-of (effectiveIncrement shift increment)))) ⌝ }
 {
+    let amount = effective_increment(shift, increment);
     let receipt = receive_increment(session_at(c, session), amount);
     judge_receipt(c, m, session, receipt)
 }
@@ -158,7 +160,7 @@ pub fn judge(c: Connection, m: Message) -> Judged
             shift,
             session,
             increment,
-        } => { judge_increment(c, m, session, effective_increment(shift, increment)) }
+        } => { judge_increment(c, m, session, shift, increment) }
         Message::Abort {
             partial,
             session,

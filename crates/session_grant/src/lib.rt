@@ -12,7 +12,10 @@ ghost use mathlib.Core.Path.{_≡_};
 ghost use mathlib.Core.Bool.{not, _||_, false};
 ghost use Prim.Native.Nat.{_-_};
 ghost use lib.Dec.{eqb, ltb};
+ghost use mathlib.Core.List.{[], _∷_};
+ghost use Rattle.laws.specs.Result.{ok};
 ghost use Rattle.ration.specs.Ration.{grantable};
+ghost use Rattle.state.specs.With.{withRations};
 ghost use Rattle.protocol.specs.Plan.{check};
 ghost use Rattle.protocol.specs.Message.{increment-of};
 ghost use Rattle.protocol.specs.Session.{extended};
@@ -51,20 +54,24 @@ fn is_bad_amount(amount: u32) -> bool
     none | large
 }
 
+// The inbound ration has grown, and an IncrementRation goes out.
+fn granted(x: Session, more: Ration, amount: u16) -> Stepped
+    ensures { λ r. ⌜ steppedAs r ≡ ok (record { session = withRations (x .outbound) more x; sent = increment-of amount ∷ []; late = false }) ⌝ }
+{
+    let outbound = x.outbound;
+    taken(x.with_rations(outbound, more), Sent::Increment(amount))
+}
+
 // Grants an amount, where the inbound ration takes it.
 fn extend(x: Session, amount: u16) -> Stepped
     ensures { λ r. ⌜ steppedAs r ≡ toStepped (check (not (grantable (x .inbound) amount)) 7 (writing (increment-of amount) (extended amount x))) ⌝ }
 {
-    let outbound = x.outbound;
     let inbound = x.inbound;
     match inbound {
         Ration::Finite(_) => {
             let grown = inbound.grow(amount as u32);
             match grown {
-                Grown::To(more) => {
-                    let next = x.with_rations(outbound, more);
-                    taken(next, Sent::Increment(amount))
-                }
+                Grown::To(more) => granted(x, more, amount),
                 Grown::PastLargest => Stepped::Refused(Refusal::GrantTooLarge),
             }
         }

@@ -9,9 +9,9 @@ use Rattle.session_grant.proofs.extend.Tie as tie
 returns : tie.Need-returns
 unfolding settle
 returns c =
-    let grow = c .before .before .before .before .before in
-    let law = grant-to _ (grow .before .enum-told .given .1) (sym (grow .grow .ensures) ∙ c .before .before .before .grown .given .1) in
-    simp (c .taken .ensures, c .before .with-rations .ensures, law .0, law .1)
+    let grow = c .before .before .before .before in
+    let law = grant-to _ (grow .before .enum-told .given .1) (sym (grow .grow .ensures) ∙ c .before .before .grown .given .1) in
+    simp (c .granted .ensures, law .0, law .1)
 
 returns-2 : tie.Need-returns-2
 unfolding settle
@@ -26,5 +26,5 @@ pub extend-spec : {M : Type 1} → statement M
 extend-spec =
     tie.close
     (tie.spec
-    (λ c. search needs) (λ c κs. search needs) (λ c. search needs) (λ c κs. search needs) (λ c κs. search needs)
-    (λ c. search needs) (λ c. search needs) returns returns-2 returns-3)
+    (λ c. search needs) (λ c κs. search needs) (λ c. search needs) (λ c κs. search needs) (λ c. search needs)
+    (λ c. search needs) returns returns-2 returns-3)

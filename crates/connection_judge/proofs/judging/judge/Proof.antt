@@ -1,8 +1,7 @@
 -- `judge` meets its contract: each arm is a type of message, of the connection as a whole or of a session.
-use mathlib.Core.Path.{refl, sym, ap}
-use Prim.Native.Nat.{ℕ}
+use mathlib.Core.Path.{refl}
 use borrow.Author.Needs.{needs}
-use Rattle.protocol.specs.Message.{whole, of-session, increment-of}
+use Rattle.protocol.specs.Message.{whole}
 use Rattle.connection_judge.proofs.Judgments.{no-operation, shut-down, told-error, pinged, by-scope, by-parts}
 use Rattle.connection_judge.proofs.judging.judge.Statement.{statement}
 use Rattle.connection_judge.proofs.judging.judge.Tie as tie
@@ -39,11 +38,9 @@ returns-5 c =
 
 returns-6 : tie.Need-returns-6
 returns-6 c =
-    let amount = c .before in
-    let told = amount .before .before in
+    let told = c .before .before in
     let a = told .before .before .args in
-    let i = told .m3 .given .0 .1 .0 in
-    by-parts (a .c) (a .m) _ (told .m3 .given .1) (ap (λ (n : ℕ). of-session i (increment-of n)) (sym (amount .effective-increment .ensures))) (c .judge-increment .ensures)
+    by-parts (a .c) (a .m) _ (told .m3 .given .1) refl (c .judge-increment .ensures)
 
 returns-7 : tie.Need-returns-7
 returns-7 c =
@@ -76,7 +73,6 @@ judge-spec =
     (tie.spec
     (λ c. search needs) (λ c κs. search needs) (λ c. search needs) (λ c κs. search needs) (λ c. search needs)
     (λ c κs. search needs) (λ c. search needs) (λ c κs. search needs) (λ c. search needs) (λ c κs. search needs)
-    (λ c. search needs) (λ c κs. search needs) (λ c κs. search needs) (λ c. search needs) (λ c κs. search needs)
     (λ c. search needs) (λ c κs. search needs) (λ c. search needs) (λ c κs. search needs) (λ c. search needs)
-    (λ c κs. search needs) returns returns-2 returns-3 returns-4 returns-5 returns-6 returns-7 returns-8 returns-9
-    returns-10)
+    (λ c κs. search needs) (λ c. search needs) (λ c κs. search needs) (λ c. search needs) (λ c κs. search needs)
+    returns returns-2 returns-3 returns-4 returns-5 returns-6 returns-7 returns-8 returns-9 returns-10)
