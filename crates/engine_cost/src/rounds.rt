@@ -22,10 +22,14 @@ struct Round {
 }
 
 fn session(waiting: u16) -> Session {
-    let x = Session::BLANK.with_sides(Sides::Live(Side::Open, Side::Open));
-    let sent = x.with_rations(Ration::Endless, Ration::Endless);
-    let runs = sent.with_outcome(Outcome::Running);
-    runs.with_waiting(waiting, false)
+    Session {
+        sides: Sides::Live(Side::Open, Side::Open),
+        outbound: Ration::Endless,
+        inbound: Ration::Endless,
+        waiting,
+        finish: false,
+        outcome: Outcome::Running,
+    }
 }
 
 // A client with the sessions 0 to 7 open, and so many bytes waiting for each.
