@@ -5,7 +5,7 @@ use wire::Kind;
 use wire::Message;
 use wire::Role;
 ghost use mathlib.Core.Path.{_≡_};
-ghost use Rattle.wire.specs.Message.{maySend, dataFlags, flagsAllowed};
+ghost use Rattle.wire.specs.Message.{isServer, maySend, onlyIf, dataFlags, flagsAllowed};
 
 // Whether a sender may send messages of a type.
 pub fn may_send(from: Role, kind: Kind) -> bool
@@ -42,6 +42,12 @@ fn data_flags(from: Role, opens: bool, close: bool, eof: bool, ack: bool) -> boo
     }
 }
 
+fn abort_flags(from: Role, partial: bool) -> bool
+    ensures { λ r. ⌜ r ≡ onlyIf partial (isServer from) ⌝ }
+{
+    !partial | is_server(from)
+}
+
 // Whether a sender may set the flags that a message has.
 pub fn flags_allowed(from: Role, m: Message) -> bool
     ensures { λ r. ⌜ r ≡ flagsAllowed from m ⌝ }
@@ -53,12 +59,7 @@ pub fn flags_allowed(from: Role, m: Message) -> bool
         Message::PingAck { .. } => true,
         Message::Error { .. } => true,
         Message::IncrementRation { .. } => true,
-        Message::Abort { partial, .. } => {
-            if partial {
-                return is_server(from);
-            }
-            true
-        }
+        Message::Abort { partial, .. } => abort_flags(from, partial),
         Message::Close { .. } => true,
         Message::Acknowledgment { .. } => true,
         Message::Data {

@@ -23,6 +23,10 @@ returns-6 c = sym (ap (maySend _) (c .enum-told6 .given .1))
 returns-7 : tie.Need-returns-7
 returns-7 c = sym (ap (maySend _) (c .enum-told7 .given .1))
 
+-- by what `is_server` promises
+returns-8 : tie.Need-returns-8
+returns-8 c = search needs
+
 returns-10 : tie.Need-returns-10
 returns-10 c = sym (ap (maySend _) (c .enum-told10 .given .1))
 
@@ -33,4 +37,4 @@ may-send-spec =
     (λ c. search needs) (λ c. search needs) (λ c κs. search needs) (λ c. search needs) (λ c. search needs)
     (λ c. search needs) (λ c. search needs) (λ c. search needs) (λ c. search needs) (λ c κs. search needs)
     (λ c. search needs) (λ c κs. search needs) (λ c. search needs) returns (λ c. search needs) returns-3 returns-4
-    returns-5 returns-6 returns-7 (λ c. search needs) (λ c. search needs) returns-10)
+    returns-5 returns-6 returns-7 returns-8 (λ c. search needs) returns-10)
