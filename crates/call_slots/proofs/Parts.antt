@@ -117,21 +117,21 @@ servable-has queue n waiting e =
     }
 
 module _ (n : ℕ) (q : List ℕ) where
-  a-slot : n * 256 + 256 - n * 256 ≡ 256
+  a-slot : n * slotSize + slotSize - n * slotSize ≡ slotSize
   a-slot = omega arith
 
-  pub slot-part : take (n * 256 + 256 - n * 256) (drop (n * 256) q) ≡ slot n q
-  slot-part = ap (λ (k : ℕ). take k (drop (n * 256) q)) a-slot
+  pub slot-part : take (n * slotSize + slotSize - n * slotSize) (drop (n * slotSize) q) ≡ slot n q
+  slot-part = ap (λ (k : ℕ). take k (drop (n * slotSize) q)) a-slot
 
-  slot-back : (s : List ℕ) → putMid (n * 256) (n * 256 + 256 - n * 256) q s ≡ withSlot n s q
+  slot-back : (s : List ℕ) → putMid (n * slotSize) (n * slotSize + slotSize - n * slotSize) q s ≡ withSlot n s q
   slot-back s =
-      ap (λ (r : List ℕ). take (n * 256) q ++ (s ++ r)) (post-is (n * 256) (n * 256 + 256) q (omega arith))
-      ∙ sym (append-assoc (take (n * 256) q) s (drop (n * 256 + 256) q))
+      ap (λ (r : List ℕ). take (n * slotSize) q ++ (s ++ r)) (post-is (n * slotSize) (n * slotSize + slotSize) q (omega arith))
+      ∙ sym (append-assoc (take (n * slotSize) q) s (drop (n * slotSize + slotSize) q))
 
   module _ (w : ℕ) (served : servable (length q) n w ≡ true) where
     pub put-into-is : (src : List ℕ) {s : List ℕ} → length src ≤ slotSize - w
-        → s ≡ putSlot w src (take (n * 256 + 256 - n * 256) (drop (n * 256) q))
-        → putMid (n * 256) (n * 256 + 256 - n * 256) q s ≡ putInto q n w src
+        → s ≡ putSlot w src (take (n * slotSize + slotSize - n * slotSize) (drop (n * slotSize) q))
+        → putMid (n * slotSize) (n * slotSize + slotSize - n * slotSize) q s ≡ putInto q n w src
     unfolding putInto
     put-into-is src {s} h e =
         slot-back s ∙ ap (λ (r : List ℕ). withSlot n r q) (e ∙ ap (putSlot w src) slot-part) ∙ sym (yes _ _ _ served ∙ yes _ _ _ (le-leb _ _ h))
@@ -140,8 +140,8 @@ module _ (n : ℕ) (q : List ℕ) where
     unfolding putInto
     put-too-many src h = sym (yes _ _ _ served ∙ no _ _ _ (lt-leb _ _ h))
 
-    pub take-from-is : (k : ℕ) {s : List ℕ} → k ≤ w → s ≡ turnSlot w k (take (n * 256 + 256 - n * 256) (drop (n * 256) q))
-        → putMid (n * 256) (n * 256 + 256 - n * 256) q s ≡ takenFrom q n w k
+    pub take-from-is : (k : ℕ) {s : List ℕ} → k ≤ w → s ≡ turnSlot w k (take (n * slotSize + slotSize - n * slotSize) (drop (n * slotSize) q))
+        → putMid (n * slotSize) (n * slotSize + slotSize - n * slotSize) q s ≡ takenFrom q n w k
     unfolding takenFrom
     take-from-is k {s} h e =
         slot-back s ∙ ap (λ (r : List ℕ). withSlot n r q) (e ∙ ap (turnSlot w k) slot-part) ∙ sym (yes _ _ _ served ∙ yes _ _ _ (le-leb _ _ h))

@@ -95,7 +95,7 @@ module _ (c : Connection) (n : ℕ) (queue room : List ℕ) {x : Stepped} {res :
   pub turn-taken : {w : ℕ} {t : Taken} {next : Connection} {wrote k : ℕ} {left last : List ℕ} {outs : List Output} → n < 128 → w ≡ at c n .waiting
       → w ≤ slotSize → length queue ≡ queueSize → turnRoom ≤ length room
       → x ≡ stepped.Taken t → next ≡ withServed c n (t .session) → outs ≡ map (λ m. sent (numbered n m)) (sentAs (t .sent))
-      → (wrote, last) ≡ atFront (bytesOfAll (take (n * 256 + 256 - n * 256) (drop (n * 256) queue)) outs) room
+      → (wrote, last) ≡ atFront (bytesOfAll (take (n * slotSize + slotSize - n * slotSize) (drop (n * slotSize) queue)) outs) room
       → k ≡ w - t .session .waiting → left ≡ takenFrom queue n w k → res ≡ reporting next n wrote
       → (res, left, last) ≡ turnGives c queue room (decision (setting-session c n n (served n)) (steppedAs x))
   turn-taken {w} {t} {next} {wrote} {k} {left} {last} {outs} number waits within whole roomy e is o wr less l g =

@@ -28,7 +28,7 @@ use Rattle.protocol.specs.Observed.{greeted}
 use Rattle.protocol.proofs.Plans.{passes, Exactly, exact-takes, exact-stops, takes-all}
 use Rattle.protocol.proofs.Views.{greetingOf, greeted-is, pingingOf}
 use Rattle.protocol.proofs.Asking.{open-exact, put-exact, finish-exact, grant-exact, abort-exact, close-exact}
-use Rattle.history.specs.Log.{Call, start, open-session, put, finish, turn, grant, abort, close, shutdown, lost, receive, State, Entry, decide, outBy, out, made}
+use Rattle.history.specs.Log.{Call, start, open-session, put, finish, turn, grant, abort, close, shutdown, lost, receive, State, Entry, decide, outBy, out, made, Proper}
 use Rattle.history.specs.Log as log
 use Rattle.laws.specs.Runs.{fold}
 use Rattle.history.specs.Account.{Line, lineAfter, Account, askedOf, accountAfter, blankAccount, observed}
@@ -268,7 +268,7 @@ module _ (s : Setup) (q : ℕ) (a b : Account) (e : a .line ≡ b .line) where
 
 -- ---- of a log
 
-module _ (setup : Setup) (hh : setup .header < 65_536) (queue : List ℕ) where
+module _ (setup : Setup) (hh : Proper setup) (queue : List ℕ) where
   line-is : (n : ℕ) (ks : List Call) → observed setup n (log.log setup queue ks) .line ≡ lineOf (log.run setup queue ks .connection)
   unfolding observed
   line-is n ks =

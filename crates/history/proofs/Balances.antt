@@ -23,7 +23,7 @@ use Rattle.protocol.proofs.Views.{start-told, endsOf, sendsOf, Formed}
 use Rattle.protocol.proofs.Legal.{AllLegal}
 use Rattle.protocol.proofs.Ledgers.{OutFair, InFair}
 use Rattle.protocol.proofs.Streams.{Flows, Fair, fair-all, seen-all}
-use Rattle.history.specs.Log.{Call, State, decide, nextBy, outBy, next, out, made}
+use Rattle.history.specs.Log.{Call, State, decide, nextBy, outBy, next, out, made, Proper}
 use Rattle.history.specs.Log as log
 use Rattle.history.specs.Account.{Line, lineAfter, Account, events, accountAfter, farOf}
 use Rattle.history.specs.Sums.{Sum, blankSum, sumAfter, summed}
@@ -160,6 +160,6 @@ module _ (setup : Setup) (n : ℕ) (h : n < 128) where
       }
 
   -- the sums of every log track the state
-  pub tracks : setup .header < 65_536 → (q : List ℕ) (ks : List Call) → Tracks setup n (log.run setup q ks) (summed setup n (log.log setup q ks))
+  pub tracks : Proper setup → (q : List ℕ) (ks : List Call) → Tracks setup n (log.run setup q ks) (summed setup n (log.log setup q ks))
   unfolding summed
   tracks hh q ks = tracks-run (made setup q) ks (blankSum setup) (made-ok setup hh q) (tracks-made q)

@@ -22,9 +22,9 @@ use Rattle.protocol.specs.Connection.{at, farStart}
 use Rattle.protocol.specs.Judge.{Report, served, Output, Decision, refuse, violate, accept, setting-session}
 use Rattle.protocol.specs.Call.{nextReady}
 use Rattle.protocol.specs.Result.{bytesOfAll}
-use Rattle.protocol.specs.Observed.{greeted, Sending, isReady, dueData}
+use Rattle.protocol.specs.Observed.{greeted, Sending, isReady, dueBy}
 use Rattle.protocol.proofs.Views.{greeted-is, ready-look}
-use Rattle.history.specs.Log.{Call, turn, State, Entry, decide, payloadOf, nextBy, outBy, next, out, made}
+use Rattle.history.specs.Log.{Call, turn, State, Entry, decide, payloadOf, nextBy, outBy, next, out, made, Proper}
 use Rattle.history.specs.Log as log
 use Rattle.history.specs.Account.{Line, Account, observed}
 use Rattle.history.specs.Claims.{ready, dataNumber, dataWritten, isTurn, lastServed, waitingBytes, Serves, MayTurn, NothingReady, Turns, BoundedWaiting}
@@ -78,7 +78,7 @@ module _ (setup : Setup) where
 
 -- ---- of one turn, after any calls
 
-module _ (setup : Setup) (hh : setup .header < 65_536) (queue : List ℕ) (ks : List Call) (room : List ℕ) where
+module _ (setup : Setup) (hh : Proper setup) (queue : List ℕ) (ks : List Call) (room : List ℕ) where
   o : Ok setup (log.run setup queue ks)
   o = run-made setup hh queue ks
 
@@ -119,7 +119,7 @@ module _ (setup : Setup) (hh : setup .header < 65_536) (queue : List ℕ) (ks : 
   written d e = ap (λ (z : Decision). outBy (log.run setup queue ks) (turn room) z .wrote) e
 
   serves-first : ask.readySession (at (log.run setup queue ks .connection) (nextReady (log.run setup queue ks .connection))) ≡ true → (t : Taken)
-      → t .sent ≡ dueData (holds (log.run setup queue ks) (nextReady (log.run setup queue ks .connection)) .sends) ∷ []
+      → t .sent ≡ dueBy (holds (log.run setup queue ks) (nextReady (log.run setup queue ks .connection)) .sends) ∷ []
       → decide (log.run setup queue ks .connection) (log.run setup queue ks .queue) (turn room)
       ≡ accept (setting-session (log.run setup queue ks .connection) (nextReady (log.run setup queue ks .connection)) (nextReady (log.run setup queue ks .connection)) (served (nextReady (log.run setup queue ks .connection))) t)
       → Serves setup (log.log setup queue ks) (out (log.run setup queue ks) (turn room)) (nextReady (log.run setup queue ks .connection))
@@ -134,9 +134,9 @@ module _ (setup : Setup) (hh : setup .header < 65_536) (queue : List ℕ) (ks : 
         is-ready = sym (told n inside) ∙ r;
         message =
             written (accept (setting-session (st .connection) n n (served n) t)) e ∙ turn-bytes st n n t v q
-            ∙ ap (λ (b : List ℕ). wire.header (numbered n (dueData v)) ++ b)
+            ∙ ap (λ (b : List ℕ). wire.header (numbered n (dueBy v)) ++ b)
             (due-bytes n (at (st .connection) n .waiting) (slot n (st .queue)) v rv (waiting-look (farStart (st .connection)) (at (st .connection) n) (slot n (st .queue)) rv) (o .fits n inside))
-            ∙ ap (λ (w : Sending). wire.header (numbered n (dueData w)) ++ take (wire.bodyLength (numbered n (dueData w))) (waitingBytes w)) (sym (account n inside));
+            ∙ ap (λ (w : Sending). wire.header (numbered n (dueBy w)) ++ take (wire.bodyLength (numbered n (dueBy w))) (waitingBytes w)) (sym (account n inside));
       }
 
   served-one : Here → (r : Report) → out (log.run setup queue ks) (turn room) .answer ≡ ok r
@@ -200,7 +200,7 @@ module _ (setup : Setup) (hh : setup .header < 65_536) (queue : List ℕ) (ks : 
 
 -- ---- of every entry of a log
 
-module _ (setup : Setup) (hh : setup .header < 65_536) (queue : List ℕ) where
+module _ (setup : Setup) (hh : Proper setup) (queue : List ℕ) where
   turns-log : (a : List Entry) (e : Entry) (room : List ℕ) → At setup queue a e → e .call ≡ turn room → Turns setup (length queue) a e (length room)
   turns-log a e room x h =
       let s = log.run setup queue (x .before) in

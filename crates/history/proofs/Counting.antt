@@ -30,7 +30,7 @@ use Rattle.protocol.proofs.Views.{start-told, endsOf, sendsOf, look}
 use Rattle.protocol.proofs.Legal.{Writes, AllLegal}
 use Rattle.protocol.proofs.Ledgers.{OutFair, InFair, out-covers, in-covers, open-covers}
 use Rattle.protocol.proofs.Streams.{Flows, Fair, eof-flows}
-use Rattle.history.specs.Log.{Call, State, Entry, decide, payloadOf, outBy, out}
+use Rattle.history.specs.Log.{Call, State, Entry, decide, payloadOf, outBy, out, Proper}
 use Rattle.history.specs.Log as log
 use Rattle.history.specs.Account.{Account, only, events, reported, reportedOf, farOf, observed, writtenMessage}
 use Rattle.history.specs.Sums.{Sum, blankSum, sumAfter, summed}
@@ -154,7 +154,7 @@ module _ (s : State) (k : Call) (n : ℕ) where
 
 -- ---- of a log
 
-module _ (setup : Setup) (hh : setup .header < 65_536) (queue : List ℕ) (n : ℕ) (h : n < 128) where
+module _ (setup : Setup) (hh : Proper setup) (queue : List ℕ) (n : ℕ) (h : n < 128) where
   -- of the calls ks, and one more
   module _ (ks : List Call) (k : Call) where
     tracked : Tracks setup n (log.run setup queue ks) (summed setup n (log.log setup queue ks))

@@ -21,9 +21,9 @@ use Rattle.state.specs.New.{blank}
 use Rattle.protocol.specs.Message.{Scope, whole, of-session, scope}
 use Rattle.protocol.specs.Receipt.{Taken, receipt}
 use Rattle.protocol.specs.Ask.{openAsk, putAsk, finishAsk, grantAsk, abortAsk, closeAsk, turnAsk}
-use Rattle.protocol.specs.Connection.{Cause, at, roleOf, ownStart, farStart, ended}
+use Rattle.protocol.specs.Connection.{otherEnd, Cause, at, roleOf, ownStart, farStart, ended}
 use Rattle.protocol.specs.Judge.{Report, done, served, message, Ending, goes-on, ends, Effect, Decision, refuse, violate, accept, setting-session, continued, breach, judgeWhole, judgeScope, judge}
-use Rattle.protocol.specs.Call.{nextReady, otherEnd, headerTaken, messageTaken, reading, receiveGate, startRule, openRule, putRule, finishRule, turnRule, grantRule, abortRule, closeRule, pingRule, shutdownRule, lostRule, receiveRule}
+use Rattle.protocol.specs.Call.{nextReady, headerTaken, messageTaken, reading, receiveGate, startRule, openRule, putRule, finishRule, turnRule, grantRule, abortRule, closeRule, pingRule, shutdownRule, lostRule, receiveRule}
 use Rattle.protocol.proofs.Plans.{settled, stops-all, Takes, takes-then, takes-all}
 use Rattle.history.specs.Log.{Call, start, open-session, put, finish, turn, grant, abort, close, shutdown, lost, receive, State, decide, queueAfter, nextBy, next}
 use Rattle.history.specs.Log as log

@@ -23,7 +23,7 @@ use Rattle.protocol.specs.Judge.{Output, Ending, goes-on, ends, Effect, Decisio
 use Rattle.protocol.specs.Result.{bytesOfAll}
 use Rattle.protocol.specs.Observed.{isReady, anyLapse, Seen, observe}
 use Rattle.protocol.proofs.Views.{look}
-use Rattle.history.specs.Log.{Call, State, Entry, decide, payloadOf, nextBy, outBy, next, out, made}
+use Rattle.history.specs.Log.{Call, State, Entry, decide, payloadOf, nextBy, outBy, next, out, made, Proper}
 use Rattle.history.specs.Log as log
 use Rattle.history.specs.Account.{Account, events}
 use Rattle.history.specs.Claims.{ready, dataNumber, dataWritten, has, isOver, lapse, waitsOn, Waits}
@@ -115,7 +115,7 @@ module _ (setup : Setup) where
 
 -- ---- waits, of a log
 
-module _ (setup : Setup) (hh : setup .header < 65_536) (queue : List ℕ) where
+module _ (setup : Setup) (hh : Proper setup) (queue : List ℕ) where
   pub ready-is : (ks : List Call) (n : ℕ) → n < 128 → ready setup n (log.log setup queue ks) ≡ readyAt (log.run setup queue ks) n
   ready-is ks n h = ap (λ (a : Account). isReady (a .seen .sends)) (observed-is setup hh queue ks n h)
 

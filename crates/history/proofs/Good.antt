@@ -25,7 +25,7 @@ use Rattle.protocol.specs.Asked.{isUnsent}
 use Rattle.protocol.specs.Fate.{fateOf, fateAfter, Ended, not-ended}
 use Rattle.protocol.proofs.Fates.{endedBy}
 use Rattle.protocol.proofs.Legal.{AllLegal}
-use Rattle.history.specs.Log.{Call, State, queueAfter, payloadOf, outBy}
+use Rattle.history.specs.Log.{Call, State, queueAfter, payloadOf, outBy, Proper}
 use Rattle.history.specs.Account.{Line, lineAfter, events, reported, reportedOf, Account}
 use Rattle.history.specs.Fates.{endTold}
 use Rattle.history.specs.Meant.{meantFor, meantOfAll, meantBy, ReadInOrder, mayGo}
@@ -61,7 +61,7 @@ pub record Ok (setup : Setup) (s : State) : Type 0 where
   pub last : s .connection .last < 128
   pub role : roleOf (s .connection .stage) ≡ setup .role
   pub own : s .connection .own ≡ setup .header
-  pub header : setup .header < 65_536
+  pub proper : Proper setup
   pub far : farNumber (s .connection .stage) < 65_536
   pub formed : (n : ℕ) → n < 128 → Formed (setup .role) (exchanged (s .connection .stage)) (at (s .connection) n)
   pub fits : (n : ℕ) → n < 128 → at (s .connection) n .waiting ≤ length (slot n (s .queue))

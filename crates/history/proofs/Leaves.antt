@@ -1,12 +1,13 @@
 -- refused-leaves: what a call that is not taken leaves, for every state; from the shape of the decisions and their numbers.
 use mathlib.Core.Path.{_≡_, refl, sym, ap, _∙_, subst}
-use mathlib.Core.Bool.{Bool, true, false, true≢false}
+use mathlib.Core.Bool.{Bool, true, false, not, true≢false}
 use mathlib.Core.List.{List, []}
 use Prim.Native.Nat.{ℕ, _≤_, _<_}
 use native.Mathlib.Omega.{arith}
-use lib.Dec.{leb}
+use lib.Dec.{eqb, ltb, leb}
 use borrow.Author.Tests.{ltb-true, leb-true}
 use Rattle.laws.specs.Result.{ok, refused, violation}
+use Rattle.laws.proofs.Tests.{and-second}
 use Rattle.laws.proofs.Results.{refused-same, violation-same, refused-not-ok, violation-not-ok, violation-not-refused}
 use Rattle.state.specs.declared.Connection.{Connection}
 use Rattle.state.specs.declared.Session.{Session}
@@ -16,7 +17,7 @@ use Rattle.protocol.specs.Plan.{Plan, settle}
 use Rattle.protocol.specs.Connection.{Cause, shutdown-received, error-received, own-shutdown, line-lost, at, wellFormed, ending, ended}
 use Rattle.protocol.specs.Judge.{Report, done, served, header-received, message, Effect, Breach, Decision, refuse, violate, accept, errorAfter}
 use Rattle.laws.specs.Room.{overlaid}
-use Rattle.protocol.specs.Result.{bytesOfAll, usedBy, startOf, endOf}
+use Rattle.protocol.specs.Result.{bytesOfAll, extentOf}
 use Rattle.history.specs.Log.{Call, start, open-session, put, finish, turn, grant, abort, close, shutdown, lost, receive, roomOf, State, decide, payloadOf, nextBy, outBy, next, out}
 use Rattle.history.specs.Log as log
 use Rattle.protocol.proofs.Plans.{settled, stops-all, takes-all}
@@ -37,7 +38,7 @@ Breaches c (violate b) = (leb 20 (b .code) ≡ true) × (b .cause ≡ line-lost)
 Breaches c (accept e) = Unit {0}
 
 by-rule : (c : Connection) (d : Decision) → Ruled c d → Below d × Breaches c d
-by-rule c (refuse n) h = (let k = ltb-true n 14 h in omega arith, tt)
+by-rule c (refuse n) h = (ltb-true n 20 (and-second (not (eqb n 14)) (ltb n 20) h), tt)
 by-rule c (violate b) h = (tt, h)
 by-rule c (accept e) h = (tt, tt)
 
@@ -134,7 +135,7 @@ module _ (s : State) (k : Call) where
   unused-by (violate b) h = (refl, refl, refl)
   unused-by (accept x) h = go (x .report) h
     where
-      go : (r : Report) → takesInput (ok r) ≡ false → (usedBy r ≡ 0) × (startOf r ≡ 0) × (endOf r ≡ 0)
+      go : (r : Report) → takesInput (ok r) ≡ false → (extentOf r .used ≡ 0) × (extentOf r .start ≡ 0) × (extentOf r .end ≡ 0)
       go done e = (refl, refl, refl)
       go (served n) e = (refl, refl, refl)
       go (header-received far) e = absurd (true≢false e)

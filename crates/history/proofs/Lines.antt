@@ -207,7 +207,7 @@ module _ (s : State) (o : Ok (setupOf (s .connection)) s) where
       line-good (start room) stage.Started (s .connection .ping) goes-on done (header-out (s .connection .own) ∷ []) refl refl
       (client-is (roleOf (s .connection .stage)) server) (omega arith) (inr (fresh-not-up (s .connection .stage) (not-false _ fresh)))
       (λ m. header-no-message (roleOf (s .connection .stage)) [] (s .connection .own) m) refl live refl refl
-      (λ _. opening-read-back (roleOf (s .connection .stage)) (s .connection .own) [] [] (o .header) (nothing-read-back (roleOf (s .connection .stage)) []))
+      (λ _. opening-read-back (roleOf (s .connection .stage)) (s .connection .own) [] [] (o .proper) (nothing-read-back (roleOf (s .connection .stage)) []))
       (and-both (and-both (ap not live) (fresh-ungreeted (s .connection .stage) (not-false _ fresh))) (ap isClient (sym (client-is (roleOf (s .connection .stage)) server))), tt) refl
 
   pub ping-good : (cookie : ℕ) (room : List ℕ)

@@ -19,7 +19,7 @@ use Rattle.protocol.specs.Ask.{putAsk, turnAsk, readySession}
 use Rattle.protocol.specs.Connection.{at, roleOf, exchanged, farStart, ownStart}
 use Rattle.protocol.specs.Judge.{done, served, setting-session}
 use Rattle.protocol.specs.Call.{putRule, turnRule, nextReady}
-use Rattle.protocol.specs.Observed.{puts, dueData}
+use Rattle.protocol.specs.Observed.{puts, dueBy}
 use Rattle.protocol.specs.Plan as plan
 use Rattle.protocol.proofs.Plans.{Takes, takes-then, takes-map, takes-both}
 use Rattle.protocol.proofs.Views.{Formed, look, ready-look}
@@ -85,9 +85,9 @@ module _ (s : State) (o : Ok (setupOf (s .connection)) s) where
       (takes-map (λ t z. session-good (setupOf (s .connection)) s (turn room) n n (served n) [] true t o (taken t (z .0) (z .1 .0) (z .1 .1))) (turnAsk (ownStart (s .connection)) (farStart (s .connection)) x)
       (takes-both
       (λ t. Sound (roleOf (s .connection .stage)) (ownStart (s .connection)) (farStart (s .connection)) x sl [] sl (turnSlot (x .waiting) (x .waiting - t .session .waiting) sl) true t)
-      (λ t. (t .sent ≡ dueData (look (farStart (s .connection)) x sl .sends) ∷ []) × Fates s n [] t) (turnAsk (ownStart (s .connection)) (farStart (s .connection)) x)
+      (λ t. (t .sent ≡ dueBy (look (farStart (s .connection)) x sl .sends) ∷ []) × Fates s n [] t) (turnAsk (ownStart (s .connection)) (farStart (s .connection)) x)
       (turn-sound (roleOf (s .connection .stage)) (ownStart (s .connection)) (farStart (s .connection)) x sl f (own-range s o) (far-range s o) (o .fits n hn))
-      (takes-both (λ t. t .sent ≡ dueData (look (farStart (s .connection)) x sl .sends) ∷ []) (Fates s n []) (turnAsk (ownStart (s .connection)) (farStart (s .connection)) x)
+      (takes-both (λ t. t .sent ≡ dueBy (look (farStart (s .connection)) x sl .sends) ∷ []) (Fates s n []) (turnAsk (ownStart (s .connection)) (farStart (s .connection)) x)
       (turn-sends (ownStart (s .connection)) (farStart (s .connection)) x sl (o .fits n hn))
       (no-fate-told s n (turnAsk (ownStart (s .connection)) (farStart (s .connection)) x) (turn-fate (ownStart (s .connection)) (farStart (s .connection)) x)))))
     where
@@ -114,7 +114,7 @@ module _ (s : State) (o : Ok (setupOf (s .connection)) s) where
       taken : (t : Taken) → Sound (roleOf (s .connection .stage)) (ownStart (s .connection)) (farStart (s .connection)) (at (s .connection) (nextReady (s .connection))) (slot (nextReady (s .connection)) (s .queue)) []
           (slot (nextReady (s .connection)) (s .queue))
           (turnSlot (at (s .connection) (nextReady (s .connection)) .waiting) (at (s .connection) (nextReady (s .connection)) .waiting - t .session .waiting) (slot (nextReady (s .connection)) (s .queue))) true t
-          → t .sent ≡ dueData (holds s (nextReady (s .connection)) .sends) ∷ [] → Fates s (nextReady (s .connection)) [] t
+          → t .sent ≡ dueBy (holds s (nextReady (s .connection)) .sends) ∷ [] → Fates s (nextReady (s .connection)) [] t
           → ForSession (setupOf (s .connection)) s (turn room) (nextReady (s .connection)) (nextReady (s .connection)) (served (nextReady (s .connection))) [] true t
       taken t snd sends fate =
           let hq = full (length (s .queue)) queue in

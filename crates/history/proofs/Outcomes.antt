@@ -14,7 +14,7 @@ use Rattle.protocol.specs.Observed.{Event}
 use Rattle.protocol.specs.Asked.{isUnsent}
 use Rattle.protocol.specs.Fate.{Fate, no-fate, fateOf, fateAfter, Ended, fateEnded}
 use Rattle.protocol.proofs.Fates.{ending-fate}
-use Rattle.history.specs.Log.{Call, State, decide, nextBy, outBy, next, out, made}
+use Rattle.history.specs.Log.{Call, State, decide, nextBy, outBy, next, out, made, Proper}
 use Rattle.history.specs.Account.{Account, reported, blankAccount, accountAfter}
 use Rattle.history.specs.Fates.{endTold, fateByEntry, Fated, fatedAfter, fateTold}
 use Rattle.history.specs.Claims.{FatesTold}
@@ -51,13 +51,13 @@ module _ (s : State) (o : Ok (setupOf (s .connection)) s) (k : Call) where
     unfolding fold
     fate-taken n h goes-on z =
         told-at n h
-        ∙ sym (ap (λ (w : Ended). fateEnded (isUnsent (holds s n .sends)) w (fold (fateAfter (isUnsent (holds s n .sends))) (outcomeAt (s .connection) n) (reported n k (e .report)))) (g .ends-so ∙ ap endedAs z))
+        ∙ sym (ap (λ (w : Ended). fateEnded (holds s n) w (fold (fateAfter (isUnsent (holds s n .sends))) (outcomeAt (s .connection) n) (reported n k (e .report)))) (g .ends-so ∙ ap endedAs z))
     fate-taken n h (ends cause) z =
         let w = untold-at cause z n h in
         ap (λ (x : Session). fateOf (x .outcome)) (ended-at cause (base (s .connection) e) n ∙ ap (ending cause) (w .0))
         ∙ ending-fate (farStart (s .connection)) (at (s .connection) n) (slot n (s .queue)) cause
-        ∙ sym (ap (λ (v : Ended). fateEnded (isUnsent (holds s n .sends)) v (outcomeAt (s .connection) n)) (g .ends-so ∙ ap endedAs z))
-        ∙ sym (ap (λ (es : List Event). fateEnded (isUnsent (holds s n .sends)) (endTold k (ok (e .report))) (fold (fateAfter (isUnsent (holds s n .sends))) (outcomeAt (s .connection) n) es)) (w .1))
+        ∙ sym (ap (λ (v : Ended). fateEnded (holds s n) v (outcomeAt (s .connection) n)) (g .ends-so ∙ ap endedAs z))
+        ∙ sym (ap (λ (es : List Event). fateEnded (holds s n) (endTold k (ok (e .report))) (fold (fateAfter (isUnsent (holds s n .sends))) (outcomeAt (s .connection) n) es)) (w .1))
 
   fate-by : (d : Decision) → GoodBy s k d → (n : ℕ) → n < 128
       → outcomeAt (nextBy s k d .connection) n ≡ fateByEntry n (accountOf s n) (outcomeAt (s .connection) n) (outBy s k d)
@@ -83,7 +83,7 @@ module _ (setup : Setup) (n : ℕ) (h : n < 128) where
       (ap (λ (a : Account). fateByEntry n a (z .fate) (out s k)) p ∙ ap (λ (f : Fate). fateByEntry n (accountOf s n) f (out s k)) q ∙ sym (fate-next s k o))
 
   -- of every role, header number, queue and list of calls
-  pub fates-told : setup .header < 65_536 → (queue : List ℕ) (calls : List Call) → FatesTold setup queue calls n
+  pub fates-told : Proper setup → (queue : List ℕ) (calls : List Call) → FatesTold setup queue calls n
   unfolding fateTold
   fates-told hh queue calls =
       fate-run (made setup queue) calls (made-ok setup hh queue) (record { account = blankAccount setup; fate = no-fate }) (sym (made-account setup queue n h))

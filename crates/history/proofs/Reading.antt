@@ -22,15 +22,15 @@ use Rattle.state.specs.declared.Setup.{Setup}
 use Rattle.state.specs.declared.Connection.{Connection}
 use Rattle.protocol.specs.Plan.{Plan, check, settle}
 use Rattle.protocol.specs.Plan as plan
-use Rattle.protocol.specs.Connection.{roleOf, exchanged, wellFormed}
+use Rattle.protocol.specs.Connection.{otherEnd, roleOf, exchanged, wellFormed}
 use Rattle.protocol.specs.Observed.{greeted}
 use Rattle.protocol.specs.Judge.{Report, message, Decision, refuse, violate, accept, judge}
-use Rattle.protocol.specs.Call.{otherEnd, unstarted, headerTaken, messageTaken, reading, receiveGate, receiveRule}
-use Rattle.protocol.specs.Result.{usedBy, startOf, endOf}
+use Rattle.protocol.specs.Call.{unstarted, headerTaken, messageTaken, reading, receiveGate, receiveRule}
+use Rattle.protocol.specs.Result.{extentOf}
 use Rattle.protocol.proofs.Plans.{passes, settled, stops-all, takes-all}
 use Rattle.protocol.proofs.Reports.{Tells, judge-tells}
 use Rattle.protocol.proofs.Views.{greetingOf, greeted-is}
-use Rattle.history.specs.Log.{Call, receive, State, Entry, outBy, out}
+use Rattle.history.specs.Log.{Call, receive, State, Entry, outBy, out, Proper}
 use Rattle.history.specs.Log as log
 use Rattle.history.specs.Account.{Line, Account, observed}
 use Rattle.history.specs.Meant.{headerDue}
@@ -68,8 +68,13 @@ module _ (s : State) (k : Call) (input : List ℕ) where
   tells-stands m q (violate b) w = tt
   tells-stands m q (accept e) w =
       let same : e .report ≡ message m (w .0) = w .1 in
-      subst (λ (r : Report). Stands (setupOf (s .connection)) input (outBy s k (accept e)) r) (sym same)
-      (q, ap usedBy same, message-holds (otherEnd (roleOf (c .stage))) input m q .long, ap startOf same, ap endOf same)
+      subst (λ (r : Report). Stands (setupOf (s .connection)) input (outBy s k (accept e)) r) (sym same) (
+        q,
+        ap (λ (r : Report). extentOf r .used) same,
+        message-holds (otherEnd (roleOf (c .stage))) input m q .long,
+        ap (λ (r : Report). extentOf r .start) same,
+        ap (λ (r : Report). extentOf r .end) same,
+      )
 
   message-stands : (h : Result Message) → readMessage (otherEnd (roleOf (c .stage))) input ≡ h → Stood (setupOf (s .connection)) s k input (messageTaken c h)
   message-stands (ok m) q = tells-stands m q (judge c m) (judge-tells c m)
@@ -182,7 +187,7 @@ stood-taken s st k input (refuse n) h r e = absurd (refused-not-ok e)
 stood-taken s st k input (violate b) h r e = absurd (violation-not-ok e)
 stood-taken s st k input (accept x) h r e = subst (λ (z : Report). Stands s input (outBy st k (accept x)) z) (ok-same e) h
 
-module _ (setup : Setup) (hh : setup .header < 65_536) (queue : List ℕ) where
+module _ (setup : Setup) (hh : Proper setup) (queue : List ℕ) where
   line-is : (ks : List Call) → observed setup 0 (log.log setup queue ks) .line ≡ lineOf (log.run setup queue ks .connection)
   line-is ks = ap (λ (a : Account). a .line) (observed-is setup hh queue ks 0 (omega arith))
 

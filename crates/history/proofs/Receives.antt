@@ -28,11 +28,11 @@ use Rattle.protocol.specs.Queue.{slot}
 use Rattle.protocol.specs.Plan.{Plan, settle}
 use Rattle.protocol.specs.Message.{SessionMessage, Scope, whole, of-session, scope, numbered}
 use Rattle.protocol.specs.Receipt.{Taken, receipt}
-use Rattle.protocol.specs.Connection.{shutdown-received, error-received, line-lost, at, roleOf, exchanged, farStart, ownStart}
+use Rattle.protocol.specs.Connection.{otherEnd, shutdown-received, error-received, line-lost, at, roleOf, exchanged, farStart, ownStart}
 use Rattle.protocol.specs.Judge.{header-received, message, Output, header-out, sent, Ending, goes-on, ends, Decision, refuse, violate, accept, setting-session, continued, errorAfter, breach, judgeWhole, judgeScope, judge}
-use Rattle.protocol.specs.Call.{otherEnd, unstarted, answering, headerTaken, messageTaken, reading, receiveGate, receiveRule}
+use Rattle.protocol.specs.Call.{unstarted, answering, headerTaken, messageTaken, reading, receiveGate, receiveRule}
 use Rattle.protocol.specs.Result.{bytesOfAll}
-use Rattle.protocol.specs.Observed.{Event, received, repliesTo, mayArrive, wrongNumber}
+use Rattle.protocol.specs.Observed.{Event, received, repliesAt, mayArrive, wrongNumber}
 use Rattle.protocol.proofs.Plans as plans
 use Rattle.protocol.proofs.Plans.{Takes, takes-map, takes-both, stops-all, exact-true}
 use Rattle.protocol.proofs.Views.{greetingOf, greeted-is, endsOf, Formed}
@@ -167,7 +167,7 @@ module _ (s : State) (o : Ok (setupOf (s .connection)) s) (input room : List ℕ
 
   answers-read : (r : Role) → ReadInOrder r (bytesOfAll [] (answering r (s .connection .own))) (answering r (s .connection .own))
   answers-read role.Client = nothing-read-back role.Client []
-  answers-read role.Server = opening-read-back role.Server (s .connection .own) [] [] (o .header) (nothing-read-back role.Server [])
+  answers-read role.Server = opening-read-back role.Server (s .connection .own) [] [] (o .proper) (nothing-read-back role.Server [])
 
   answers-go : (r : Role) (far : ℕ) → roleOf (s .connection .stage) ≡ r → (isServer r ≡ true → ungreeted (greetingOf (s .connection .stage)) ≡ true)
       → Every (mayGo (setupOf (s .connection)) (accountOf s 0) (outBy s (receive input room) (headerTaken (s .connection) r (ok far)))) (answering r (s .connection .own))
@@ -227,7 +227,7 @@ module _ (s : State) (o : Ok (setupOf (s .connection)) s) (input room : List ℕ
   abbrev Taking : ℕ → SessionMessage → Taken → Type 0
   Taking i sm t =
       Sound (roleOf (s .connection .stage)) (ownStart (s .connection)) (farStart (s .connection)) (at (s .connection) i) (slot i (s .queue)) (received sm ∷ []) [] (slot i (s .queue)) false t
-      × (Sends (repliesTo (roleOf (s .connection .stage)) (holds s i .standing) sm) t
+      × (Sends (repliesAt (roleOf (s .connection .stage)) (holds s i .standing) sm) t
       × ((mayArrive (roleOf (s .connection .stage)) (ownStart (s .connection)) (holds s i) sm ≡ true) × Fates s i (received sm ∷ []) t))
 
   session-message : (m : Message) (i : ℕ) (sm : SessionMessage) → scope m ≡ of-session i sm → exchanged (s .connection .stage) ≡ true → i < 128
@@ -263,9 +263,9 @@ module _ (s : State) (o : Ok (setupOf (s .connection)) s) (input room : List ℕ
       (takes-map
       (λ t z. session-good (setupOf (s .connection)) s (receive input room) i (s .connection .last) (message m (t .late)) (received sm ∷ []) false t o
       (session-message m i sm e up hi t z)) rule
-      (takes-both (Sound r own far x sl (received sm ∷ []) [] sl false) (λ t. Sends (repliesTo r (holds s i .standing) sm) t × ((mayArrive r own (holds s i) sm ≡ true) × Fates s i (received sm ∷ []) t)) rule
+      (takes-both (Sound r own far x sl (received sm ∷ []) [] sl false) (λ t. Sends (repliesAt r (holds s i .standing) sm) t × ((mayArrive r own (holds s i) sm ≡ true) × Fates s i (received sm ∷ []) t)) rule
       (receipt-sound r own far x sl f (own-range s o) (far-range s o) sm maybe)
-      (takes-both (Sends (repliesTo r (holds s i .standing) sm)) (λ t. (mayArrive r own (holds s i) sm ≡ true) × Fates s i (received sm ∷ []) t) rule (receipt-sends x r own far sm)
+      (takes-both (Sends (repliesAt r (holds s i .standing) sm)) (λ t. (mayArrive r own (holds s i) sm ≡ true) × Fates s i (received sm ∷ []) t) rule (receipt-sends x r own far sm)
       (takes-both (λ t. mayArrive r own (holds s i) sm ≡ true) (Fates s i (received sm ∷ [])) rule
       (exact-true (mayArrive r own (holds s i) sm) (wrongNumber r (endsOf (x .sides)) sm) rule (receipt-exact r own far x sl sm (f .place) maybe))
       (one-fate s i (received sm) rule (receipt-fate x (isUnsent (holds s i .sends)) r own far sm))))))

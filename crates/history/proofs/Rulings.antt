@@ -1,11 +1,10 @@
--- With which numbers a call is refused: 14 where the state is not well formed, else below 14; a violation is a number from 20 up, counts as a
+-- With which numbers a call is refused: 14 where the state is not well formed, else another below 20; a violation is a number from 20 up, counts as a
 -- lost line and is answered with Error. From the numbers of the rules and of the reader.
 use mathlib.Core.Path.{_≡_, refl, sym, ap, subst}
 use mathlib.Core.Bool.{true, false, not}
 use mathlib.Core.List.{List}
 use Prim.Native.Nat.{ℕ}
 use lib.ListN.{length}
-use lib.Dec.{ltb}
 use Rattle.laws.specs.Result.{Result, ok, refused, violation}
 use Rattle.wire.specs.declared.Role.{Role}
 use Rattle.wire.specs.declared.Message.{Message}
@@ -18,12 +17,12 @@ use Rattle.state.specs.declared.Connection.{Connection}
 use Rattle.protocol.specs.Plan.{Plan, check, settle, andThen}
 use Rattle.protocol.specs.Message.{Scope, whole, of-session, scope}
 use Rattle.protocol.specs.Receipt.{Taken, receipt}
-use Rattle.protocol.specs.Connection.{line-lost, at, roleOf, ownStart, farStart, wellFormed}
+use Rattle.protocol.specs.Connection.{otherEnd, line-lost, at, roleOf, ownStart, farStart, wellFormed}
 use Rattle.protocol.specs.Judge.{Report, done, message, Effect, Decision, refuse, violate, accept, setting-session, errorAfter, breach, judgeWhole, judgeScope, judge}
-use Rattle.protocol.specs.Call.{startRule, openRule, putRule, finishRule, turnRule, grantRule, abortRule, closeRule, pingRule, shutdownRule, lostRule, receiveRule, nextReady, otherEnd, headerTaken, messageTaken, reading}
+use Rattle.protocol.specs.Call.{startRule, openRule, putRule, finishRule, turnRule, grantRule, abortRule, closeRule, pingRule, shutdownRule, lostRule, receiveRule, nextReady, headerTaken, messageTaken, reading}
 use Rattle.protocol.specs.Ask.{openAsk, putAsk, finishAsk, grantAsk, abortAsk, closeAsk, turnAsk}
 use Rattle.protocol.proofs.Plans.{stops, passes, settled, takes-all, Stops, stops-then, stops-map}
-use Rattle.protocol.proofs.Numbers.{Low, High, open-low, put-low, finish-low, grant-low, abort-low, close-low, turn-low, receipt-high, whole-high}
+use Rattle.protocol.proofs.Numbers.{isLow, Low, High, open-low, put-low, finish-low, grant-low, abort-low, close-low, turn-low, receipt-high, whole-high}
 use Rattle.history.specs.Log.{Call, start, open-session, put, finish, turn, grant, abort, close, shutdown, lost, receive, decide}
 use Rattle.history.specs.Log as log
 
@@ -39,7 +38,7 @@ module _ (c : Connection) where
 
   header-ruled : (r : Role) (h : Result ℕ) → ShortOnly h → Ruled c (headerTaken c r h)
   header-ruled r (ok far) h = tt
-  header-ruled r (refused n) h = ap (λ (k : ℕ). ltb k 14) h
+  header-ruled r (refused n) h = ap isLow h
   header-ruled r (violation n) h = (h, refl, refl)
 
   scope-ruled : (m : Message) (z : Scope) → Ruled c (judgeScope c m z)
@@ -52,7 +51,7 @@ module _ (c : Connection) where
   message-ruled : (h : Result Message) → ShortOnly h → Ruled c (messageTaken c h)
   unfolding judge
   message-ruled (ok m) h = scope-ruled m (scope m)
-  message-ruled (refused n) h = ap (λ (k : ℕ). ltb k 14) h
+  message-ruled (refused n) h = ap isLow h
   message-ruled (violation n) h = (h, refl, refl)
 
   reading-ruled : (input : List ℕ) (st : Stage) → Ruled c (reading c input st)

@@ -21,7 +21,7 @@ use Rattle.protocol.specs.Connection.{Cause, shutdown-received, error-received,
 use Rattle.protocol.specs.Judge.{Ending, goes-on, ends, Effect, Breach, Decision, refuse, violate, accept, continued}
 use Rattle.protocol.specs.Observed.{observe}
 use Rattle.protocol.proofs.Views.{start-told, look, Formed, formed-is}
-use Rattle.history.specs.Log.{Call, start, open-session, put, finish, turn, grant, abort, close, shutdown, lost, receive, State, decide, queueAfter, nextBy, outBy, next, out, made}
+use Rattle.history.specs.Log.{Call, start, open-session, put, finish, turn, grant, abort, close, shutdown, lost, receive, State, decide, queueAfter, nextBy, outBy, next, out, made, Proper}
 use Rattle.history.specs.Log as log
 use Rattle.history.specs.Account.{Account, blankAccount, accountAfter, observed, events}
 use Rattle.history.proofs.Good.{Ok, Good, setupOf, holds, accountOf, ownOf, farBy}
@@ -121,7 +121,7 @@ ended-ok {setup} s o cause =
       last = o .last;
       role = o .role;
       own = o .own;
-      header = o .header;
+      proper = o .proper;
       far = o .far;
       formed =
           λ n h. subst (λ (x : Session). Formed (setup .role) (exchanged (s .connection .stage)) x) (sym (ended-at cause (s .connection) n))
@@ -167,7 +167,7 @@ module _ (s : State) (o : Ok (setupOf (s .connection)) s) (k : Call) (e : Effect
         last = g .last;
         role = g .role;
         own = refl;
-        header = o .header;
+        proper = o .proper;
         far = g .far;
         formed =
             by-number (λ n. Formed (roleOf (s .connection .stage)) (exchanged (e .stage)) (at (base (s .connection) e) n))
@@ -267,14 +267,14 @@ module _ (setup : Setup) where
   pub fresh-at : (n : ℕ) → n < 128 → at (fresh setup) n ≡ blank
   fresh-at n h = getD-replicate 128 n blank blank h
 
-  pub made-ok : setup .header < 65_536 → (q : List ℕ) → Ok setup (made setup q)
+  pub made-ok : Proper setup → (q : List ℕ) → Ok setup (made setup q)
   made-ok hh q =
       record {
         size = length-replicate 128 blank;
         last = omega arith;
         role = refl;
         own = refl;
-        header = hh;
+        proper = hh;
         far = omega arith;
         formed = λ n h. subst (λ (x : Session). Formed (setup .role) false x) (sym (fresh-at n h)) (blank-formed (setup .role));
         fits = λ n h. subst (λ (x : Session). x .waiting ≤ length (slot n q)) (sym (fresh-at n h)) (omega arith);
@@ -284,14 +284,14 @@ module _ (setup : Setup) where
   made-account q n h = account-path refl (ap (λ (x : Session). look (farStart (fresh setup)) x (slot n q)) (fresh-at n h))
 
   -- what the log tells is what the state holds
-  pub observed-is : setup .header < 65_536 → (q : List ℕ) (ks : List Call) (n : ℕ) → n < 128
+  pub observed-is : Proper setup → (q : List ℕ) (ks : List Call) (n : ℕ) → n < 128
       → observed setup n (log.log setup q ks) ≡ accountOf (log.run setup q ks) n
   unfolding observed
   observed-is hh q ks n h =
       ap (λ (a : Account). fold (accountAfter setup n) a (log.log setup q ks)) (sym (made-account q n h))
       ∙ sym (run-account (made setup q) ks (made-ok hh q) n h)
 
-  pub run-made : setup .header < 65_536 → (q : List ℕ) (ks : List Call) → Ok setup (log.run setup q ks)
+  pub run-made : Proper setup → (q : List ℕ) (ks : List Call) → Ok setup (log.run setup q ks)
   run-made hh q ks = run-ok (made setup q) ks (made-ok hh q)
 
 -- ---- no state of a run is refused with 14

@@ -19,7 +19,7 @@ use Rattle.protocol.specs.Connection.{roleOf}
 use Rattle.protocol.specs.Judge.{Output, header-out, sent, Breach, Decision, refuse, violate, accept, errorAfter}
 use Rattle.protocol.specs.Result.{bytesOfAll}
 use Rattle.protocol.proofs.Views.{greetingOf}
-use Rattle.history.specs.Log.{Call, State, Entry, decide, payloadOf, outBy, out}
+use Rattle.history.specs.Log.{Call, State, Entry, decide, payloadOf, outBy, out, Proper}
 use Rattle.history.specs.Log as log
 use Rattle.history.specs.Account.{Account, concerned}
 use Rattle.history.specs.Meant.{ungreeted, meantBy, ReadInOrder, mayGo}
@@ -88,7 +88,7 @@ module _ (s : State) (o : Ok (setupOf (s .connection)) s) (k : Call) where
         reads =
             λ _. subst (λ (os : List Output). ReadInOrder (roleOf (s .connection .stage)) (bytesOfAll p (b .reply)) os) (error-means st own)
             (subst (λ (os : List Output). ReadInOrder (roleOf (s .connection .stage)) (bytesOfAll p os) (errorAfter st own)) (sym (g .0))
-            (error-reads (roleOf (s .connection .stage)) p st own (o .header)));
+            (error-reads (roleOf (s .connection .stage)) p st own (o .proper)));
         allowed =
             subst (λ (os : List Output). Every (mayGo (setupOf (s .connection)) (accountOf s 0) (outBy s k (violate b))) os) (error-means st own)
             (error-goes s k b st refl (g .2) (g .3));
@@ -102,7 +102,7 @@ module _ (s : State) (o : Ok (setupOf (s .connection)) s) (k : Call) where
 
 -- ---- of a log
 
-module _ (setup : Setup) (hh : setup .header < 65_536) (queue : List ℕ) where
+module _ (setup : Setup) (hh : Proper setup) (queue : List ℕ) where
   speaks-calls : (ks : List Call) (k : Call)
       → Speaks setup (accountBefore setup (log.log setup queue ks) (out (log.run setup queue ks) k)) (out (log.run setup queue ks) k)
   unfolding out

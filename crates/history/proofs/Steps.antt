@@ -51,7 +51,7 @@ module _ (s : State) (o : Ok (setupOf (s .connection)) s) where
   formed-up up n h = subst (λ (b : Bool). Formed (roleOf (s .connection .stage)) b (at (s .connection) n)) up (o .formed n h)
 
   pub own-range : inRange (ownStart (s .connection)) ≡ true
-  own-range = start-in-range (s .connection .own) (let h = o .header in omega arith)
+  own-range = start-in-range (s .connection .own) (let h = o .proper in omega arith)
 
   pub far-range : inRange (farStart (s .connection)) ≡ true
   far-range = start-in-range (farNumber (s .connection .stage)) (let h = o .far in omega arith)

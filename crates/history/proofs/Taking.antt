@@ -22,16 +22,16 @@ use Rattle.protocol.specs.Queue.{slot}
 use Rattle.protocol.specs.Plan.{Plan, settle}
 use Rattle.protocol.specs.Message.{SessionMessage, Scope, whole, of-session, scope}
 use Rattle.protocol.specs.Receipt.{Taken, receipt}
-use Rattle.protocol.specs.Connection.{at, roleOf, exchanged, ownStart, farStart, wellFormed}
+use Rattle.protocol.specs.Connection.{otherEnd, at, roleOf, exchanged, ownStart, farStart, wellFormed}
 use Rattle.protocol.specs.Judge.{message, Effect, Decision, accept, setting-session, breach, matches, judgeWhole, judgeScope, judge}
-use Rattle.protocol.specs.Call.{otherEnd, messageTaken, reading, receiveRule}
+use Rattle.protocol.specs.Call.{messageTaken, reading, receiveRule}
 use Rattle.protocol.specs.Observed.{greeted, lateFor, mayArrive, wrongNumber}
 use Rattle.protocol.proofs.Plans.{Takes, Exactly, exact-takes, exact-stops, takes-map}
 use Rattle.protocol.proofs.Views.{pingingOf, greeted-is, awaits-is}
 use Rattle.protocol.proofs.Late.{receipt-late}
 use Rattle.protocol.proofs.Reports.{whole-reports}
 use Rattle.protocol.proofs.Exact.{receipt-exact}
-use Rattle.history.specs.Log.{Call, receive, State, Entry, outBy, out}
+use Rattle.history.specs.Log.{Call, receive, State, Entry, outBy, out, Proper}
 use Rattle.history.specs.Log as log
 use Rattle.history.specs.Account.{Line, Account, observed}
 use Rattle.history.specs.Claims.{Listening, wholeMayArrive, mayCome, lateOf, wrongFor, TakesExactly}
@@ -120,7 +120,7 @@ module _ (s : State) (k : Call) (m : Message) where
 
 -- ---- of a log
 
-module _ (setup : Setup) (hh : setup .header < 65_536) (queue : List ℕ) where
+module _ (setup : Setup) (hh : Proper setup) (queue : List ℕ) where
   line-is : (ks : List Call) → observed setup 0 (log.log setup queue ks) .line ≡ lineOf (log.run setup queue ks .connection)
   line-is ks = ap (λ (a : Account). a .line) (observed-is setup hh queue ks 0 (omega arith))
 

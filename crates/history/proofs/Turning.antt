@@ -29,7 +29,7 @@ use Rattle.protocol.specs.Connection.{at, exchanged, farStart, ownStart, wellFo
 use Rattle.protocol.specs.Judge.{served, sent, Effect, Decision, refuse, accept, setting-session}
 use Rattle.protocol.specs.Call.{nextReady, serving, turnRule}
 use Rattle.protocol.specs.Result.{bytesOfAll, decided}
-use Rattle.protocol.specs.Observed.{Sending, silent, sending, isReady, dueLength, dueData}
+use Rattle.protocol.specs.Observed.{Sending, silent, sending, isReady, dueLength, dueBy}
 use Rattle.protocol.proofs.Plans.{stops, passes}
 use Rattle.protocol.proofs.Views.{look, sendsOf, due-length}
 use Rattle.protocol.proofs.Turns.{smaller-waiting, turn-sends, turn-stops, turn-goes}
@@ -53,7 +53,7 @@ pub data Way (s : State) (room : ℕ) (d : Decision) : Type 0 where
   early : (j : ℕ) → (j ≡ 9 → ⊥) → (Clear s room → ⊥) → d ≡ refuse j → Way s room d
   none : Clear s room → readySession (at (s .connection) (nextReady (s .connection))) ≡ false → d ≡ refuse 9 → Way s room d
   taken : Clear s room → readySession (at (s .connection) (nextReady (s .connection))) ≡ true → (t : Taken)
-      → t .sent ≡ dueData (holds s (nextReady (s .connection)) .sends) ∷ []
+      → t .sent ≡ dueBy (holds s (nextReady (s .connection)) .sends) ∷ []
       → d ≡ accept (setting-session (s .connection) (nextReady (s .connection)) (nextReady (s .connection)) (served (nextReady (s .connection))) t) → Way s room d
 
 module _ (setup : Setup) (s : State) (o : Ok setup s) (room : List ℕ) where
@@ -74,7 +74,7 @@ module _ (setup : Setup) (s : State) (o : Ok setup s) (room : List ℕ) where
       go true r =
           let g =
           turn-goes refuse accept f (ownStart (s .connection)) (farStart (s .connection)) (at (s .connection) n)
-          (λ t. t .sent ≡ dueData (holds s (nextReady (s .connection)) .sends) ∷ []) r
+          (λ t. t .sent ≡ dueBy (holds s (nextReady (s .connection)) .sends) ∷ []) r
           (turn-sends (ownStart (s .connection)) (farStart (s .connection)) (at (s .connection) n) (slot n (s .queue)) (o .fits n hn)) in
           taken clear r (g .0) (g .2) (e ∙ g .1)
       go false r = none clear r (e ∙ turn-stops refuse accept f (ownStart (s .connection)) (farStart (s .connection)) (at (s .connection) n) r)
@@ -130,7 +130,7 @@ due-le : (w : ℕ) (r : Ration) → dueLength w r ≤ w
 due-le w r = subst (λ (n : ℕ). n ≤ w) (sym (due-length w r)) (smaller-waiting w r)
 
 pub due-bytes : (k w : ℕ) (sl : List ℕ) (v : Sending) → isReady v ≡ true → waitingBytes v ≡ take w sl → w ≤ length sl
-    → take (wire.bodyLength (numbered k (dueData v))) sl ≡ take (wire.bodyLength (numbered k (dueData v))) (waitingBytes v)
+    → take (wire.bodyLength (numbered k (dueBy v))) sl ≡ take (wire.bodyLength (numbered k (dueBy v))) (waitingBytes v)
 due-bytes k w sl silent r e h = absurd (false≢true r)
 due-bytes k w sl (sending u b q f) r e h =
     let n = dueLength (length b) q in
@@ -149,13 +149,13 @@ waiting-look far x sl r = go (x .sides) r
     go (sides.Live side.Finished t) e = absurd (false≢true e)
     go (sides.Live side.Ended t) e = absurd (false≢true e)
 
-pub turn-bytes : (s : State) (n last : ℕ) (t : Taken) (v : Sending) → t .sent ≡ dueData v ∷ []
+pub turn-bytes : (s : State) (n last : ℕ) (t : Taken) (v : Sending) → t .sent ≡ dueBy v ∷ []
     → bytesOfAll (slot n (s .queue)) (setting-session (s .connection) n last (served n) t .outs)
-    ≡ wire.header (numbered n (dueData v)) ++ take (wire.bodyLength (numbered n (dueData v))) (slot n (s .queue))
+    ≡ wire.header (numbered n (dueBy v)) ++ take (wire.bodyLength (numbered n (dueBy v))) (slot n (s .queue))
 unfolding bytesOfAll
 turn-bytes s n last t v e =
     ap (λ (ms : List SessionMessage). bytesOfAll (slot n (s .queue)) (map (λ m. sent (numbered n m)) ms)) e
-    ∙ append-nil (wire.header (numbered n (dueData v)) ++ take (wire.bodyLength (numbered n (dueData v))) (slot n (s .queue)))
+    ∙ append-nil (wire.header (numbered n (dueBy v)) ++ take (wire.bodyLength (numbered n (dueBy v))) (slot n (s .queue)))
 
 -- ---- the mark is the number served last
 

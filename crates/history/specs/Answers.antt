@@ -54,7 +54,7 @@ localAnswer s queue a (open-session n) = ifUp (a .line) (ifNumber n (takenIf (ma
 localAnswer s queue a (put n bytes) =
     ifUp (a .line)
     (refusing (not (eqb queue queueSize)) 8 (ifNumber n (takenIf (mayPut (a .seen .sends) (length bytes)) (putNumber (a .seen .sends)))))
-localAnswer s queue a (finish n) = ifUp (a .line) (ifNumber n (takenIf (mayFinish (a .seen .sends)) 5))
+localAnswer s queue a (finish n) = ifUp (a .line) (ifNumber n (takenIf (mayFinish (s .role) (a .seen)) 5))
 localAnswer s queue a (turn room) = ok done
 localAnswer s queue a (grant n amount room) =
     ifUp (a .line) (ifRoom 4 room (ifNumber n (takenIf (mayAskGrant (a .seen) amount) (grantNumber (a .seen) amount))))

@@ -27,9 +27,8 @@ use Rattle.state.specs.declared.Setup.{Setup}
 use Rattle.protocol.specs.Slot.{queueSize, turnRoom}
 use Rattle.protocol.specs.Queue.{slot}
 use Rattle.protocol.specs.Message.{numbered, Scope, whole, of-session, scope}
-use Rattle.protocol.specs.Connection.{at}
+use Rattle.protocol.specs.Connection.{otherEnd, at}
 use Rattle.protocol.specs.Judge.{Report, done, served, header-received, message, Output}
-use Rattle.protocol.specs.Call.{otherEnd}
 use Rattle.laws.specs.Room.{overlaid}
 use Rattle.protocol.specs.Observed.{Pinging, greeted, awaits, Sending, silent, sending, isReady, anyLapse, ends, established, dueData, lateFor, mayArrive, wrongNumber}
 use Rattle.protocol.specs.Fate.{fateOf}
@@ -123,8 +122,8 @@ pub record Serves (s : Setup) (a : List Entry) (e : Entry) (k : ℕ) : Type 0 wh
   pub first-ready : k ≡ nearest (λ n. ready s n a) (lastServed s a)
   pub is-ready : ready s k a ≡ true
   pub message : e .wrote
-      ≡ wire.header (numbered k (dueData (observed s k a .seen .sends)))
-      ++ take (wire.bodyLength (numbered k (dueData (observed s k a .seen .sends)))) (waitingBytes (observed s k a .seen .sends))
+      ≡ wire.header (numbered k (dueData (observed s k a .seen)))
+      ++ take (wire.bodyLength (numbered k (dueData (observed s k a .seen)))) (waitingBytes (observed s k a .seen .sends))
 
 -- no check before the search for a ready number refuses the turn
 pub record MayTurn (s : Setup) (queue : ℕ) (a : List Entry) (room : ℕ) : Type 0 where

@@ -53,7 +53,7 @@ endTold k (violation n) = by-lost-line
 
 abbrev pub fateByEntry : ℕ → Account → Fate → Entry → Fate
 fateByEntry n a f e =
-    fateEnded (isUnsent (a .seen .sends)) (endTold (e .call) (e .answer))
+    fateEnded (a .seen) (endTold (e .call) (e .answer))
     (fold (fateAfter (isUnsent (a .seen .sends))) f (toldBy n (e .call) (e .answer)))
 
 -- what is told of a number, and its fate

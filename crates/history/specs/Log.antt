@@ -1,5 +1,5 @@
 -- The calls of one end, what each leaves, and the entry that it adds to the log.
-use Prim.Native.Nat.{ℕ}
+use Prim.Native.Nat.{ℕ, _<_}
 use mathlib.Core.Bool.{Bool}
 use mathlib.Core.List.{List, []}
 use lib.ListN.{length}
@@ -127,6 +127,10 @@ next s k = nextBy s k (decide (s .connection) (s .queue) k)
 
 unfoldable pub out : State → Call → Entry
 out s k = outBy s k (decide (s .connection) (s .queue) k)
+
+-- what the code can hold: a header number of 16 bits
+abbrev pub Proper : Setup → Type 0
+Proper s = s .header < 65_536
 
 -- a connection just made, with a queue of any bytes and any length
 abbrev pub made : Setup → List ℕ → State

@@ -51,12 +51,12 @@ askedToSend (receive input room) v = []
 
 abbrev pub answeredIn : Role → Seen → Scope → List SessionMessage
 answeredIn r v whole = []
-answeredIn r v (of-session i m) = repliesTo r (v .standing) m
+answeredIn r v (of-session i m) = repliesTo r v m
 
 -- a turn sends what is due, a message received gets its answer
 abbrev pub meantFor : Role → Call → Report → Seen → List SessionMessage
 meantFor r k done v = askedToSend k v
-meantFor r k (served n) v = dueData (v .sends) ∷ []
+meantFor r k (served n) v = dueData v ∷ []
 meantFor r k (header-received far) v = []
 meantFor r k (message m late) v = answeredIn r v (scope m)
 

@@ -27,7 +27,7 @@ use Rattle.protocol.specs.Session.{queued, finishing}
 use Rattle.protocol.specs.Ask.{silently, openOf, openAsk, sends, putAsk, finishAsk, mayGrant, grantAsk, abortOf, abortAsk, closeOf, closeAsk}
 use Rattle.protocol.specs.Connection.{placed}
 use Rattle.protocol.specs.Observed.{ifSo, Sending, mayOpen}
-use Rattle.protocol.specs.Asked.{isUnsent, mayAskOpen, openNumber, mayPut, putNumber, mayFinish, mayGrantTo, isAmount, hasRoom, mayAskGrant, grantNumber, mayAbort, mayAskAbort, abortNumber, mayCloseAt, mayAskClose, closeNumber}
+use Rattle.protocol.specs.Asked.{isUnsent, mayAskOpen, openNumber, mayPut, putNumber, sendsOn, mayGrantTo, isAmount, hasRoom, mayAskGrant, grantNumber, mayAbort, mayAskAbort, abortNumber, mayCloseAt, mayAskClose, closeNumber}
 use Rattle.protocol.proofs.Plans.{Exactly}
 use Rattle.protocol.proofs.Views.{endsOf, sendsOf, look}
 
@@ -101,11 +101,11 @@ module _ (far : Ration) (x : Session) (s : List ℕ) where
       go (sides.Live side.Finished t) = ((λ e. (refl, refl)), λ e. absurd (true≢false e))
       go (sides.Live side.Ended t) = ((λ e. (refl, refl)), λ e. absurd (true≢false e))
 
-  pub finish-exact : Exactly (mayFinish (look far x s .sends)) 5 (finishAsk x)
+  pub finish-exact : Exactly (sendsOn (look far x s .sends)) 5 (finishAsk x)
   unfolding finishAsk
   finish-exact = go (x .sides)
     where
-      go : (z : Sides) → Exactly (mayFinish (sendsAt z)) 5 (check (not (sends z) || x .finish) 5 (silently (finishing x)))
+      go : (z : Sides) → Exactly (sendsOn (sendsAt z)) 5 (check (not (sends z) || x .finish) 5 (silently (finishing x)))
       go sides.Idle = ((λ e. (refl, refl)), λ e. absurd (true≢false e))
       go (sides.Opening b) = ((λ e. (ap not e, refl)), λ e. ap not e)
       go (sides.Live side.Open t) = ((λ e. (ap not e, refl)), λ e. ap not e)

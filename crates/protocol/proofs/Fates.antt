@@ -184,7 +184,7 @@ module _ (far : Ration) (x : Session) (s : List ℕ) where
   unsent-is (sides.Live side.Finished t) = refl
   unsent-is (sides.Live side.Ended t) = refl
 
-  pub ending-fate : (cause : Cause) → fateOf (ending cause x .outcome) ≡ fateEnded (isUnsent (look far x s .sends)) (endedBy cause) (fateOf (x .outcome))
+  pub ending-fate : (cause : Cause) → fateOf (ending cause x .outcome) ≡ fateEnded (look far x s) (endedBy cause) (fateOf (x .outcome))
   ending-fate shutdown-received = becomes-is (x .outcome) outcome.MayRetry
   ending-fate error-received = becomes-is (x .outcome) (unlessSent (x .sides)) ∙ ap (ifRunning (fateOf (x .outcome))) (unsent-is (x .sides))
   ending-fate own-shutdown = refl

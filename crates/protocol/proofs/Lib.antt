@@ -1,5 +1,6 @@
 -- What follows from the rules, one session at a time.
 pub mod Plans
+pub mod Lastly
 pub mod Views
 pub mod Asking
 pub mod Sends

@@ -1,8 +1,8 @@
--- With which numbers the rules about one session refuse: a local call below 14, a receipt from 20 up. From the rules, written out.
+-- With which numbers the rules about one session refuse: a local call below 20 and not 14, a receipt from 20 up. From the rules, written out.
 use mathlib.Core.Path.{_≡_, refl}
-use mathlib.Core.Bool.{Bool, true, false}
+use mathlib.Core.Bool.{Bool, true, false, not, _&&_}
 use Prim.Native.Nat.{ℕ}
-use lib.Dec.{ltb, leb}
+use lib.Dec.{eqb, ltb, leb}
 use Rattle.ration.specs.declared.Ration.{Ration}
 use Rattle.wire.specs.declared.Role.{Role}
 use Rattle.wire.specs.declared.Role.the-variants as role
@@ -22,8 +22,12 @@ use Rattle.protocol.specs.Ask.{openOf, openAsk, putAsk, finishAsk, grant
 use Rattle.protocol.specs.Judge.{judgeWhole}
 use Rattle.protocol.proofs.Plans.{Stops}
 
+-- a number that a check behind the test of the state may refuse with
+abbrev pub isLow : ℕ → Bool
+isLow n = not (eqb n 14) && ltb n 20
+
 abbrev pub Low : ℕ → Type 0
-Low n = ltb n 14 ≡ true
+Low n = isLow n ≡ true
 
 abbrev pub High : ℕ → Type 0
 High n = leb 20 n ≡ true

@@ -16,7 +16,7 @@ use Rattle.protocol.specs.Ask.{turnAsk}
 use Rattle.protocol.specs.Connection.{at, roleOf, ownStart, farStart}
 use Rattle.protocol.specs.Judge.{served, message, sent, Effect, Decision, refuse, violate, accept, setting-session, breach, judgeWhole, judgeScope, judge}
 use Rattle.protocol.specs.Call.{nextReady, turnRule}
-use Rattle.protocol.specs.Result.{usedBy, bytesOf}
+use Rattle.protocol.specs.Result.{extentOf, bytesOf}
 use Rattle.protocol.proofs.Plans.{Takes, takes-then, takes-all, takes-map, stops-all, settled}
 
 -- ---- a turn reports the number that it serves, and marks it
@@ -65,7 +65,7 @@ judge-tells c m = scope-tells c m (scope m)
 
 -- ---- a message taken uses as many bytes as the writer writes for it
 
-pub used-is : (m : Message) (late : Bool) (payload : List ℕ) → bodyLength m ≤ length payload → length (bytesOf payload (sent m)) ≡ usedBy (message m late)
+pub used-is : (m : Message) (late : Bool) (payload : List ℕ) → bodyLength m ≤ length payload → length (bytesOf payload (sent m)) ≡ extentOf (message m late) .used
 used-is m late payload h =
     let body = length-take-le (bodyLength m) payload h in
     length-append (header m) (take (bodyLength m) payload) ∙ omega arith

@@ -18,7 +18,7 @@ use Rattle.protocol.specs.Message.{SessionMessage, data-of, increment-of
 use Rattle.protocol.specs.Session.{follow, afterData, settled}
 use Rattle.protocol.specs.Receipt.{Taken, aborted, dataTo, incrementTo, abortTo, closeTo, arriving, other, receipt}
 use Rattle.protocol.specs.Ask.{openOf, openAsk, putAsk, finishAsk, grantAsk, abortOf, abortAsk, closeOf, closeAsk}
-use Rattle.protocol.specs.Observed.{Ends, unused, ends, repliesTo}
+use Rattle.protocol.specs.Observed.{Ends, unused, ends, repliesAt}
 use Rattle.protocol.specs.Asked.{isUnsent}
 use Rattle.protocol.proofs.Plans.{Takes}
 use Rattle.protocol.proofs.Views.{endsOf, sendsOf, look}
@@ -86,12 +86,12 @@ close-sends r x _ = go (x .sides)
 
 module _ (x : Session) where
   -- an open Data gets no reply
-  open-replies : (r : Role) (n : ℕ) (close eof ack : Bool) (v : Ends) → [] ≡ repliesTo r v (data-of n true close eof ack)
+  open-replies : (r : Role) (n : ℕ) (close eof ack : Bool) (v : Ends) → [] ≡ repliesAt r v (data-of n true close eof ack)
   unfolding pick
   open-replies r n close eof ack unused = refl
   open-replies r n close eof ack (ends o t) = refl
 
-  data-replies : (r : Role) (n : ℕ) (close eof ack : Bool) (o t t′ : Side) → Takes (Sends (repliesTo r (ends o t) (data-of n false close eof ack))) (dataTo r x n close o t′)
+  data-replies : (r : Role) (n : ℕ) (close eof ack : Bool) (o t t′ : Side) → Takes (Sends (repliesAt r (ends o t) (data-of n false close eof ack))) (dataTo r x n close o t′)
   unfolding pick
   data-replies r n true eof ack side.Ended t t′ = refl
   data-replies r n false eof ack side.Ended t t′ = refl
@@ -100,13 +100,13 @@ module _ (x : Session) where
   data-replies r n true eof ack side.Open t t′ = λ _. refl
   data-replies r n false eof ack side.Open t t′ = λ _. refl
 
-  increment-replies : (r : Role) (n : ℕ) (o t : Side) → Takes (Sends (repliesTo r (ends o t) (increment-of n))) (incrementTo x n o t)
+  increment-replies : (r : Role) (n : ℕ) (o t : Side) → Takes (Sends (repliesAt r (ends o t) (increment-of n))) (incrementTo x n o t)
   unfolding pick
   increment-replies r n side.Open t = λ _. refl
   increment-replies r n side.Finished t = refl
   increment-replies r n side.Ended t = refl
 
-  abort-replies : (r : Role) (y : Session) (p : Bool) (o t t′ : Side) → Takes (Sends (repliesTo r (ends o t) (abort-of p))) (abortTo r y o t′)
+  abort-replies : (r : Role) (y : Session) (p : Bool) (o t t′ : Side) → Takes (Sends (repliesAt r (ends o t) (abort-of p))) (abortTo r y o t′)
   unfolding pick
   abort-replies role.Client y p side.Open t t′ = refl
   abort-replies role.Server y p side.Open t t′ = refl
@@ -115,13 +115,13 @@ module _ (x : Session) where
   abort-replies role.Client y p side.Ended t t′ = refl
   abort-replies role.Server y p side.Ended t t′ = refl
 
-  close-replies : (r : Role) (y : Session) (o t t′ : Side) → Takes (Sends (repliesTo r (ends o t) close-of)) (closeTo r y o t′)
+  close-replies : (r : Role) (y : Session) (o t t′ : Side) → Takes (Sends (repliesAt r (ends o t) close-of)) (closeTo r y o t′)
   unfolding pick
   close-replies r y side.Open t t′ = refl
   close-replies r y side.Finished t t′ = refl
   close-replies r y side.Ended t t′ = refl
 
-  arriving-replies : (r : Role) (m : SessionMessage) (o t : Side) → Takes (Sends (repliesTo r (ends o t) m)) (arriving r x m o (follow t m))
+  arriving-replies : (r : Role) (m : SessionMessage) (o t : Side) → Takes (Sends (repliesAt r (ends o t) m)) (arriving r x m o (follow t m))
   unfolding pick
   arriving-replies r (data-of n true close eof ack) o side.Open = tt
   arriving-replies r (data-of n true close eof ack) o side.Finished = tt
@@ -142,12 +142,12 @@ module _ (x : Session) where
   arriving-replies r acknowledgment-of o side.Finished = refl
   arriving-replies r acknowledgment-of o side.Ended = tt
 
-  other-replies : (r : Role) (m : SessionMessage) (z : Sides) → Takes (Sends (repliesTo r (endsOf z) m)) (other r x m z)
+  other-replies : (r : Role) (m : SessionMessage) (z : Sides) → Takes (Sends (repliesAt r (endsOf z) m)) (other r x m z)
   other-replies r m sides.Idle = tt
   other-replies r m (sides.Opening b) = tt
   other-replies r m (sides.Live o t) = arriving-replies r m o t
 
-  pub receipt-sends : (r : Role) (own far : Ration) (m : SessionMessage) → Takes (Sends (repliesTo r (endsOf (x .sides)) m)) (receipt r own far x m)
+  pub receipt-sends : (r : Role) (own far : Ration) (m : SessionMessage) → Takes (Sends (repliesAt r (endsOf (x .sides)) m)) (receipt r own far x m)
   unfolding receipt
   receipt-sends r own far (data-of n true close eof ack) = λ _ _. open-replies r n close eof ack (endsOf (x .sides))
   receipt-sends r own far (data-of n false close eof ack) = other-replies r (data-of n false close eof ack) (x .sides)

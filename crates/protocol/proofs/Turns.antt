@@ -32,7 +32,7 @@ use Rattle.protocol.specs.Judge.{Effect}
 use Rattle.protocol.specs.Message.{data-of}
 use Rattle.protocol.specs.Session.{afterData}
 use Rattle.protocol.specs.Ask.{sendable, lastData, sends, sending as sendingOf, turnOf, turnAsk, readySession, readyIn}
-use Rattle.protocol.specs.Observed.{sending, withData, dueData, Seen, ends, ours, mayOpen, rationOf, permitsOurs}
+use Rattle.protocol.specs.Observed.{sending, withData, dueBy, Seen, ends, ours, mayOpen, rationOf, permitsOurs}
 use Rattle.protocol.proofs.Plans.{Takes, passes}
 use Rattle.protocol.proofs.Views.{endsOf, sendsOf, look, Formed, seen-path, pairs, paired, due-length}
 use Rattle.protocol.proofs.Slots.{turn-length}
@@ -203,22 +203,22 @@ turn-sound r own far x s f ho hf long = go (x .sides) refl
 
 -- a turn sends what is observed to be due
 pub turn-sends : (own far : Ration) (x : Session) (s : List ℕ) → x .waiting ≤ length s
-    → Takes (λ t. t .sent ≡ dueData (look far x s .sends) ∷ []) (turnAsk own far x)
+    → Takes (λ t. t .sent ≡ dueBy (look far x s .sends) ∷ []) (turnAsk own far x)
 unfolding turnAsk
 turn-sends own far x s long = go (x .sides) refl
   where
     size : length (take (x .waiting) s) ≡ x .waiting
     size = length-take-le (x .waiting) s long
 
-    sent : (u : Bool) (q : Ration) → data-of (sendable (x .waiting) q) u false (lastData x (sendable (x .waiting) q)) false ∷ [] ≡ dueData (sending u (take (x .waiting) s) q (x .finish)) ∷ []
+    sent : (u : Bool) (q : Ration) → data-of (sendable (x .waiting) q) u false (lastData x (sendable (x .waiting) q)) false ∷ [] ≡ dueBy (sending u (take (x .waiting) s) q (x .finish)) ∷ []
     sent u q = rw (size, due-length (x .waiting) q)
 
-    go : (z : Sides) → x .sides ≡ z → Takes (λ t. t .sent ≡ dueData (look far x s .sends) ∷ []) (turnOf own far x z)
+    go : (z : Sides) → x .sides ≡ z → Takes (λ t. t .sent ≡ dueBy (look far x s .sends) ∷ []) (turnOf own far x z)
     go sides.Idle e = tt
     go (sides.Opening b) e =
-        sent true far ∙ sym (ap (λ (z : Sides). dueData (sendsOf far z (take (x .waiting) s) (x .outbound) (x .finish)) ∷ []) e)
+        sent true far ∙ sym (ap (λ (z : Sides). dueBy (sendsOf far z (take (x .waiting) s) (x .outbound) (x .finish)) ∷ []) e)
     go (sides.Live side.Open t) e = λ due.
-        sent false (x .outbound) ∙ sym (ap (λ (z : Sides). dueData (sendsOf far z (take (x .waiting) s) (x .outbound) (x .finish)) ∷ []) e)
+        sent false (x .outbound) ∙ sym (ap (λ (z : Sides). dueBy (sendsOf far z (take (x .waiting) s) (x .outbound) (x .finish)) ∷ []) e)
     go (sides.Live side.Finished t) e = tt
     go (sides.Live side.Ended t) e = tt
 

@@ -23,9 +23,12 @@ abbrev pub openNumber : Role → ℕ
 openNumber r = ifSo (isClient r) 5 4
 
 -- finish: a session that sends, no finish asked (else 5)
-abbrev pub mayFinish : Sending → Bool
-mayFinish silent = false
-mayFinish (sending unsent waiting r finish) = not finish
+abbrev pub sendsOn : Sending → Bool
+sendsOn silent = false
+sendsOn (sending unsent waiting r finish) = not finish
+
+abbrev pub mayFinish : Role → Seen → Bool
+mayFinish r v = sendsOn (v .sends)
 
 -- put: where finish may be asked (else 5), and no more than a slot waits then (else 6)
 abbrev pub mayPut : Sending → ℕ → Bool
@@ -33,7 +36,7 @@ mayPut silent n = false
 mayPut (sending unsent waiting r finish) n = not finish && leb (length waiting + n) slotSize
 
 abbrev pub putNumber : Sending → ℕ
-putNumber v = ifSo (mayFinish v) 6 5
+putNumber v = ifSo (sendsOn v) 6 5
 
 -- grant: our end open or finished, theirs open (else 5)
 abbrev pub mayGrantTo : Ends → Bool

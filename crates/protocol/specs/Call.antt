@@ -20,7 +20,7 @@ use Rattle.protocol.specs.Slot.{queueSize, turnRoom}
 use Rattle.protocol.specs.Plan.{Plan, check, take, settle, andThen}
 use Rattle.protocol.specs.Receipt.{Taken}
 use Rattle.protocol.specs.Ask.{openAsk, putAsk, finishAsk, grantAsk, abortAsk, closeAsk, turnAsk, readySession}
-use Rattle.protocol.specs.Connection.{own-shutdown, line-lost, at, roleOf, exchanged, ownStart, farStart, wellFormed}
+use Rattle.protocol.specs.Connection.{own-shutdown, line-lost, at, otherEnd, roleOf, exchanged, ownStart, farStart, wellFormed}
 use Rattle.protocol.specs.Judge.{done, served, header-received, Output, header-out, sent, Effect, Decision, refuse, accept, setting-stage, setting-ping, setting-session, ends-by, breach, judge}
 
 -- ---- the checks that calls share
@@ -113,10 +113,6 @@ unfoldable pub lostRule : Connection → Plan Effect
 lostRule c = running c (take (ends-by c line-lost done []))
 
 -- ---- receive
-
-abbrev pub otherEnd : Role → Role
-otherEnd role.Client = role.Server
-otherEnd role.Server = role.Client
 
 -- a good first header makes a server write its own
 abbrev pub answering : Role → ℕ → List Output

@@ -27,6 +27,10 @@ use Rattle.protocol.specs.Ask.{sends}
 abbrev pub at : Connection → ℕ → Session
 at c n = getD (c .sessions) n blank
 
+abbrev pub otherEnd : Role → Role
+otherEnd role.Client = role.Server
+otherEnd role.Server = role.Client
+
 abbrev pub roleOf : Stage → Role
 roleOf (stage.Fresh r) = r
 roleOf stage.Started = role.Client

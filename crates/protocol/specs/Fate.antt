@@ -3,7 +3,8 @@ use mathlib.Core.Bool.{Bool, true, false}
 use Rattle.state.specs.declared.Outcome.{Outcome}
 use Rattle.state.specs.declared.Outcome.the-variants as outcome
 use Rattle.protocol.specs.Message.{data-of, increment-of, abort-of, close-of, acknowledgment-of}
-use Rattle.protocol.specs.Observed.{Event, opens, finishes, aborts, puts, received, wrote}
+use Rattle.protocol.specs.Observed.{Event, opens, finishes, aborts, puts, received, wrote, Seen}
+use Rattle.protocol.specs.Asked.{isUnsent}
 
 pub data Fate : Type 0 where
   no-fate running complete may-be-retried must-not-be-retried : Fate
@@ -59,9 +60,9 @@ pub data Ended : Type 0 where
   not-ended by-shutdown by-error by-own-shutdown by-lost-line : Ended
 
 -- a Shutdown received: may be retried; an Error received or a lost line: not, where it was sent; our own shutdown changes nothing
-abbrev pub fateEnded : Bool → Ended → Fate → Fate
-fateEnded unsent not-ended f = f
-fateEnded unsent by-shutdown f = ifRunning f may-be-retried
-fateEnded unsent by-error f = ifRunning f (unlessUnsent unsent)
-fateEnded unsent by-own-shutdown f = f
-fateEnded unsent by-lost-line f = ifRunning f (unlessUnsent unsent)
+abbrev pub fateEnded : Seen → Ended → Fate → Fate
+fateEnded v not-ended f = f
+fateEnded v by-shutdown f = ifRunning f may-be-retried
+fateEnded v by-error f = ifRunning f (unlessUnsent (isUnsent (v .sends)))
+fateEnded v by-own-shutdown f = f
+fateEnded v by-lost-line f = ifRunning f (unlessUnsent (isUnsent (v .sends)))

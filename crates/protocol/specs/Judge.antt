@@ -58,46 +58,25 @@ pub data Decision : Type 0 where
 
 -- ---- effects
 
--- no session changes
-abbrev pub effect : Connection → Stage → Ping → Ending → Report → List Output → Effect
-effect c s p ending r outs =
-    record {
-      number = 0;
-      session = at c 0;
-      stage = s;
-      last = c .last;
-      ping = p;
-      ending = ending;
-      report = r;
-      outs = outs;
-    }
+abbrev pub effect : ℕ → Session → Stage → ℕ → Ping → Ending → Report → List Output → Effect
+effect n x s last p e r outs = record { number = n; session = x; stage = s; last = last; ping = p; ending = e; report = r; outs = outs }
 
 -- nothing changes but what is said
 abbrev pub unchanged : Connection → Report → List Output → Effect
-unchanged c r outs = effect c (c .stage) (c .ping) goes-on r outs
+unchanged c r outs = effect 0 (at c 0) (c .stage) (c .last) (c .ping) goes-on r outs
 
 abbrev pub ends-by : Connection → Cause → Report → List Output → Effect
-ends-by c cause r outs = effect c (c .stage) (c .ping) (ends cause) r outs
+ends-by c cause r outs = effect 0 (at c 0) (c .stage) (c .last) (c .ping) (ends cause) r outs
 
 abbrev pub setting-ping : Connection → Ping → Report → List Output → Effect
-setting-ping c p r outs = effect c (c .stage) p goes-on r outs
+setting-ping c p r outs = effect 0 (at c 0) (c .stage) (c .last) p goes-on r outs
 
 abbrev pub setting-stage : Connection → Stage → Report → List Output → Effect
-setting-stage c s r outs = effect c s (c .ping) goes-on r outs
+setting-stage c s r outs = effect 0 (at c 0) s (c .last) (c .ping) goes-on r outs
 
 -- what was taken for one session: the connection adds the number to what is written
 abbrev pub setting-session : Connection → ℕ → ℕ → Report → Taken → Effect
-setting-session c n last r t =
-    record {
-      number = n;
-      session = t .session;
-      stage = c .stage;
-      last = last;
-      ping = c .ping;
-      ending = goes-on;
-      report = r;
-      outs = map (λ m. sent (numbered n m)) (t .sent);
-    }
+setting-session c n last r t = effect n (t .session) (c .stage) last (c .ping) goes-on r (map (λ m. sent (numbered n m)) (t .sent))
 
 abbrev pub continued : Ending → Connection → Connection
 continued goes-on c = c

@@ -245,9 +245,12 @@ answered r o close-of = unfinished o
 answered r o acknowledgment-of = false
 
 -- a server's Abort sets partial
-abbrev pub repliesTo : Role → Ends → SessionMessage → List SessionMessage
-repliesTo r unused m = []
-repliesTo r (ends o t) m = pick (answered r o m) (abort-of (isServer r) ∷ []) []
+abbrev pub repliesAt : Role → Ends → SessionMessage → List SessionMessage
+repliesAt r unused m = []
+repliesAt r (ends o t) m = pick (answered r o m) (abort-of (isServer r) ∷ []) []
+
+abbrev pub repliesTo : Role → Seen → SessionMessage → List SessionMessage
+repliesTo r v m = repliesAt r (v .standing) m
 
 -- ---- what a turn sends
 
@@ -257,10 +260,13 @@ dueLength waiting (ration.Finite n) = pick (leb waiting n) waiting n
 dueLength waiting ration.Endless = waiting
 
 -- the smaller of waiting and ration as length, open if unsent, eof exactly if finish was taken and nothing remains
-abbrev pub dueData : Sending → SessionMessage
-dueData silent = data-of 0 false false false false
-dueData (sending unsent waiting r finish) =
+abbrev pub dueBy : Sending → SessionMessage
+dueBy silent = data-of 0 false false false false
+dueBy (sending unsent waiting r finish) =
     data-of (dueLength (length waiting) r) unsent false (finish && eqb (length waiting - dueLength (length waiting) r) 0) false
+
+abbrev pub dueData : Seen → SessionMessage
+dueData v = dueBy (v .sends)
 
 -- ---- what 002 lets an end send now
 

@@ -53,25 +53,21 @@ calledAs r =
 
 -- ---- bytes
 
+-- how many bytes of the input are used, and where in them the payload starts and ends
+pub record Extent : Type 0 where
+  pub used : ℕ
+  pub start : ℕ
+  pub end : ℕ
+
+abbrev pub noInput : Extent
+noInput = record { used = 0; start = 0; end = 0 }
+
 -- a message taken uses 4 bytes plus its length, a header 8
-abbrev pub usedBy : Report → ℕ
-usedBy done = 0
-usedBy (served n) = 0
-usedBy (header-received n) = 8
-usedBy (message m late) = 4 + bodyLength m
-
--- where in the input the payload starts and ends
-abbrev pub startOf : Report → ℕ
-startOf done = 0
-startOf (served n) = 0
-startOf (header-received n) = 0
-startOf (message m late) = 4
-
-abbrev pub endOf : Report → ℕ
-endOf done = 0
-endOf (served n) = 0
-endOf (header-received n) = 0
-endOf (message m late) = 4 + bodyLength m
+abbrev pub extentOf : Report → Extent
+extentOf done = noInput
+extentOf (served n) = noInput
+extentOf (header-received n) = record { used = 8; start = 0; end = 0 }
+extentOf (message m late) = record { used = 4 + bodyLength m; start = 4; end = 4 + bodyLength m }
 
 -- the bytes of what is written; `payload` holds those that follow a Data header
 abbrev pub bytesOf : List ℕ → Output → List ℕ
@@ -89,33 +85,25 @@ writtenBy payload (accept e) = bytesOfAll payload (e .outs)
 
 -- ---- what a decision gives
 
--- a refusal leaves the connection as it is; a violation uses no input and ends the connection
-abbrev pub given : Connection → List ℕ → Decision → Given
-given c payload (refuse n) = record { connection = c; answer = refused n; used = 0; wrote = 0; start = 0; end = 0 }
-given c payload (violate b) =
-    record {
-      connection = ended (b .cause) c;
-      answer = violation (b .code);
-      used = 0;
-      wrote = length (bytesOfAll payload (b .reply));
-      start = 0;
-      end = 0;
-    }
-given c payload (accept e) =
-    record {
-      connection = commit c e;
-      answer = ok (e .report);
-      used = usedBy (e .report);
-      wrote = length (bytesOfAll payload (e .outs));
-      start = startOf (e .report);
-      end = endOf (e .report);
-    }
-
--- the queue changes only where the call is taken
+-- what is said of an effect where the call is taken, else what was
 abbrev pub ifTaken : {A : Type 0} → Decision → (Effect → A) → A → A
 ifTaken (refuse n) new old = old
 ifTaken (violate b) new old = old
 ifTaken (accept e) new old = new e
+
+abbrev pub giving : Connection → Result Report → Extent → List ℕ → Given
+giving c answer x bytes =
+    record { connection = c; answer = answer; used = x .used; wrote = length bytes; start = x .start; end = x .end }
+
+-- a refusal leaves the connection as it is; a violation uses no input and ends the connection
+abbrev pub givenIn : Connection → List ℕ → Extent → Decision → Given
+givenIn c payload x (refuse n) = giving c (refused n) noInput []
+givenIn c payload x (violate b) = giving (ended (b .cause) c) (violation (b .code)) noInput (bytesOfAll payload (b .reply))
+givenIn c payload x (accept e) = giving (commit c e) (ok (e .report)) x (bytesOfAll payload (e .outs))
+
+-- as much of the input as the report tells of
+abbrev pub given : Connection → List ℕ → Decision → Given
+given c payload d = givenIn c payload (ifTaken d (λ e. extentOf (e .report)) noInput) d
 
 abbrev pub decided : Plan Effect → Decision
 decided p = settle refuse accept p
