@@ -95,7 +95,7 @@ pub record Sent (from : Role) (m : Message) : Type 0 where
   pub sender : maySend from (kindOfMessage m) ≡ true
   pub flags : flagsAllowed from m ≡ true
 
-header-sent : (from : Role) (h : List ℕ) (m : Message) → parseHeader from h ≡ ok m → Sent from m
+pub header-sent : (from : Role) (h : List ℕ) (m : Message) → parseHeader from h ≡ ok m → Sent from m
 unfolding parseHeader typed pick
 header-sent from h m q = go (kindOf (getD h 0 0)) q
   where
@@ -133,17 +133,21 @@ message-sent from s m q = go (ltb (length s) 4) q
 
 -- ---- the connection header
 
-pub header-number : (s : List ℕ) (n : ℕ) → readConnectionHeader s ≡ ok n → n < 65_536
-unfolding readConnectionHeader parseConnectionHeader pick
-header-number s n q = go (ltb (length s) 8) q
+pub parsed-number : (h : List ℕ) (n : ℕ) → parseConnectionHeader h ≡ ok n → n < 65_536
+unfolding parseConnectionHeader pick
+parsed-number h n q = number (fixed connectionLayout h) q
   where
-    number : (b : Bool) → pick b (ok (digits initialRation connectionLayout (take 8 s) 0)) (violation 22) ≡ ok n → n < 65_536
-    number true p = subst (λ (k : ℕ). k < 65_536) (ok-same p) (wide-bound (getD (take 8 s) 5 0) (getD (take 8 s) 6 0))
+    number : (b : Bool) → pick b (ok (digits initialRation connectionLayout h 0)) (violation 22) ≡ ok n → n < 65_536
+    number true p = subst (λ (k : ℕ). k < 65_536) (ok-same p) (wide-bound (getD h 5 0) (getD h 6 0))
     number false p = absurd (violation-not-ok p)
 
+pub header-number : (s : List ℕ) (n : ℕ) → readConnectionHeader s ≡ ok n → n < 65_536
+unfolding readConnectionHeader pick
+header-number s n q = go (ltb (length s) 8) q
+  where
     go : (b : Bool) → pick b (refused 10) (parseConnectionHeader (take 8 s)) ≡ ok n → n < 65_536
     go true p = absurd (refused-not-ok p)
-    go false p = number (fixed connectionLayout (take 8 s)) p
+    go false p = parsed-number (take 8 s) n p
 
 -- ---- what stands too short is refused with 10, and nothing else is refused; a violation is a number from 20 up
 
@@ -166,20 +170,25 @@ parse-short from h (Known k) =
     either (allowed from k m) (violation 21) (fixed (layout k) h) sender refl
 parse-short from h Unknown = refl
 
+pub parsed-short : (from : Role) (h : List ℕ) → ShortOnly (parseHeader from h)
+unfolding parseHeader
+parsed-short from h = parse-short from h (kindOf (getD h 0 0))
+
 pub message-short : (from : Role) (s : List ℕ) → ShortOnly (readMessage from s)
-unfolding readMessage parseHeader
+unfolding readMessage
 message-short from s =
-    let r = typed from (take 4 s) (kindOf (getD (take 4 s) 0 0)) in
-    either (refused 10) (withBody (length s) r) (ltb (length s) 4) refl (body r (parse-short from (take 4 s) (kindOf (getD (take 4 s) 0 0))))
+    let r = parseHeader from (take 4 s) in
+    either (refused 10) (withBody (length s) r) (ltb (length s) 4) refl (body r (parsed-short from (take 4 s)))
   where
     body : (r : Result Message) → ShortOnly r → ShortOnly (withBody (length s) r)
     body (ok m) h = either (ok m) (refused 10) (leb (4 + bodyLength m) (length s)) tt refl
     body (refused n) h = h
     body (violation n) h = h
 
+pub connection-short : (h : List ℕ) → ShortOnly (parseConnectionHeader h)
+unfolding parseConnectionHeader
+connection-short h = either (ok (digits initialRation connectionLayout h 0)) (violation 22) (fixed connectionLayout h) tt refl
+
 pub header-short : (s : List ℕ) → ShortOnly (readConnectionHeader s)
-unfolding readConnectionHeader parseConnectionHeader
-header-short s =
-    let n = digits initialRation connectionLayout (take 8 s) 0 in
-    either (refused 10) (parseConnectionHeader (take 8 s)) (ltb (length s) 8) refl
-    (either (ok n) (violation 22) (fixed connectionLayout (take 8 s)) tt refl)
+unfolding readConnectionHeader
+header-short s = either (refused 10) (parseConnectionHeader (take 8 s)) (ltb (length s) 8) refl (connection-short (take 8 s))
