@@ -12,7 +12,7 @@ use Rattle.state.specs.declared.Session.{Session}
 use Rattle.state.specs.declared.Connection.{Connection}
 use Rattle.state.specs.declared.Ping.the-variants as ping
 use Rattle.protocol.specs.Plan.{Plan, stop, check, take, settle}
-use Rattle.protocol.specs.Message.{SessionMessage, Scope, whole, of-session, scope, numbered}
+use Rattle.protocol.specs.Message.{no-operation-of, shutdown-of, error-of, ping-of, ping-ack-of, SessionMessage, Scope, whole, of-session, scope, numbered}
 use Rattle.state.specs.New.{blank}
 use Rattle.protocol.specs.Receipt as rule
 use Rattle.protocol.specs.Connection.{shutdown-received, error-received, at, roleOf, ownStart, farStart, ended}
@@ -40,54 +40,47 @@ module _ (c : Connection) where
 
   -- ---- messages of the connection as a whole
 
-  module _ {m : Message} {v : Verdict} where
-    pub no-operation : {n : ℕ} → m ≡ msg.NoOperation n → v ≡ took c m false [] → v ≡ verdict c (judgeScope c m whole)
+  module _ (m : Message) {v : Verdict} where
+    pub no-operation : v ≡ took c m false [] → v ≡ verdict c (judgeScope c m (whole no-operation-of))
     unfolding settle
-    no-operation {n} e h =
-        rw e (rw e at h ∙ ap (λ (x : Connection). took x (msg.NoOperation n) false []) (sets-nothing (message (msg.NoOperation n) false) []))
+    no-operation h = h ∙ ap (λ (x : Connection). took x m false []) (sets-nothing (message m false) [])
 
-    pub shut-down : {n : ℕ} {next : Connection} → m ≡ msg.Shutdown n → next ≡ ended shutdown-received c → v ≡ took next m false []
-        → v ≡ verdict c (judgeScope c m whole)
+    pub shut-down : {next : Connection} → next ≡ ended shutdown-received c → v ≡ took next m false []
+        → v ≡ verdict c (judgeScope c m (whole shutdown-of))
     unfolding settle
-    shut-down {n} e q h =
-        rw e
-        (rw e at h ∙ ap (λ (x : Connection). took x (msg.Shutdown n) false [])
-        (q ∙ sets-end c (message (msg.Shutdown n) false) [] shutdown-received))
+    shut-down q h = h ∙ ap (λ (x : Connection). took x m false []) (q ∙ sets-end c (message m false) [] shutdown-received)
 
-    pub told-error : {n : ℕ} {next : Connection} → m ≡ msg.Error n → next ≡ ended error-received c → v ≡ took next m false []
-        → v ≡ verdict c (judgeScope c m whole)
+    pub told-error : {next : Connection} → next ≡ ended error-received c → v ≡ took next m false []
+        → v ≡ verdict c (judgeScope c m (whole error-of))
     unfolding settle
-    told-error {n} e q h =
-        rw e
-        (rw e at h ∙ ap (λ (x : Connection). took x (msg.Error n) false [])
-        (q ∙ sets-end c (message (msg.Error n) false) [] error-received))
+    told-error q h = h ∙ ap (λ (x : Connection). took x m false []) (q ∙ sets-end c (message m false) [] error-received)
+
+    pub pinged : (k : ℕ) → v ≡ took c m false (sent (msg.PingAck k) ∷ []) → v ≡ verdict c (judgeScope c m (whole (ping-of k)))
+    unfolding settle
+    pinged k h =
+        let reply = sent (msg.PingAck k) ∷ [] in
+        h ∙ ap (λ (x : Connection). took x m false reply) (sets-nothing (message m false) reply)
 
   module _ (k : ℕ) where
-    pub pinged : {v : Verdict} → v ≡ took c (msg.Ping k) false (sent (msg.PingAck k) ∷ []) → v ≡ verdict c (judgeScope c (msg.Ping k) whole)
-    unfolding settle
-    pinged h =
-        let reply = sent (msg.PingAck k) ∷ [] in
-        h ∙ ap (λ (x : Connection). took x (msg.Ping k) false reply) (sets-nothing (message (msg.Ping k) false) reply)
-
     -- a PingAck, by whether it matches
     answered : Effect
     answered = setting-ping c ping.None (message (msg.PingAck k) false) []
 
     by-match : {b : Bool} → matches (c .ping) k ≡ b
-        → verdict c (settle (breach c) accept (check (not b) 28 (take answered))) ≡ verdict c (judgeScope c (msg.PingAck k) whole)
+        → verdict c (settle (breach c) accept (check (not b) 28 (take answered))) ≡ verdict c (judgeScope c (msg.PingAck k) (whole (ping-ack-of k)))
     unfolding answered
     by-match e = sym (ap (λ (t : Bool). verdict c (settle (breach c) accept (check (not t) 28 (take answered)))) e)
 
     module _ {v : Verdict} where
       pub acknowledged : {next : Connection} → matches (c .ping) k ≡ true → next ≡ withPing ping.None c
-          → v ≡ took next (msg.PingAck k) false [] → v ≡ verdict c (judgeScope c (msg.PingAck k) whole)
+          → v ≡ took next (msg.PingAck k) false [] → v ≡ verdict c (judgeScope c (msg.PingAck k) (whole (ping-ack-of k)))
       unfolding settle answered
       acknowledged e q h =
           h
           ∙ ap (λ (x : Connection). took x (msg.PingAck k) false []) (q ∙ sets-ping c (message (msg.PingAck k) false) [] ping.None)
           ∙ by-match e
 
-      pub unasked : matches (c .ping) k ≡ false → v ≡ verdict c (breach c 28) → v ≡ verdict c (judgeScope c (msg.PingAck k) whole)
+      pub unasked : matches (c .ping) k ≡ false → v ≡ verdict c (breach c 28) → v ≡ verdict c (judgeScope c (msg.PingAck k) (whole (ping-ack-of k)))
       unfolding settle
       unasked e h = h ∙ by-match e
 

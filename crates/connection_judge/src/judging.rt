@@ -29,7 +29,7 @@ ghost use Rattle.wire.specs.declared.Message.the-variants.{PingAck};
 ghost use mathlib.Core.List.{[]};
 ghost use Rattle.laws.specs.Result.{ok};
 ghost use Rattle.wire.specs.Message.{effectiveIncrement};
-ghost use Rattle.protocol.specs.Message.{data-of, increment-of, abort-of, close-of, acknowledgment-of, whole, of-session};
+ghost use Rattle.protocol.specs.Message.{ping-ack-of, data-of, increment-of, abort-of, close-of, acknowledgment-of, whole, of-session};
 ghost use Rattle.protocol.specs.Connection.{ended as Connection·ended};
 ghost use Rattle.protocol.specs.Judge.{message, matches as Judge·matches, judgeScope, judge as Judge·judge};
 ghost use Rattle.session_receive.specs.Receipt.{receiptAs};
@@ -48,7 +48,7 @@ fn matches(ping: Ping, cookie: u16) -> bool
 
 // A PingAck answers the outstanding ping, and then none is outstanding.
 fn judge_ping_ack(c: Connection, cookie: u16) -> Judged
-    ensures { λ r. ⌜ verdictAs r ≡ verdict c (judgeScope c (PingAck cookie) whole) ⌝ }
+    ensures { λ r. ⌜ verdictAs r ≡ verdict c (judgeScope c (PingAck cookie) (whole (ping-ack-of cookie))) ⌝ }
 {
     let ping = c.ping;
     if matches(ping, cookie) {

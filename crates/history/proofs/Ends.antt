@@ -18,7 +18,7 @@ use Rattle.state.specs.declared.Stage.the-variants as stage
 use Rattle.state.specs.declared.Connection.{Connection}
 use Rattle.protocol.specs.Plan.{Plan, settle, andThen}
 use Rattle.state.specs.New.{blank}
-use Rattle.protocol.specs.Message.{Scope, whole, of-session, scope}
+use Rattle.protocol.specs.Message.{ConnectionMessage, no-operation-of, shutdown-of, error-of, ping-of, ping-ack-of, Scope, whole, of-session, scope}
 use Rattle.protocol.specs.Receipt.{Taken, receipt}
 use Rattle.protocol.specs.Ask.{openAsk, putAsk, finishAsk, grantAsk, abortAsk, closeAsk, turnAsk}
 use Rattle.protocol.specs.Connection.{otherEnd, Cause, at, roleOf, ownStart, farStart, ended}
@@ -54,20 +54,15 @@ module _ (c : Connection) where
   session : (n last : ℕ) (r : Report) (p : Plan Taken) → Takes (λ e. EndsAlone c (accept e)) (andThen (setting-session c n last r) p)
   session n last r p = takes-then (λ e. EndsAlone c (accept e)) (setting-session c n last r) p (takes-all (λ t cause z. goes-ends z) p)
 
-  whole-ends : (m : Message) → Takes (λ e. EndsAlone c (accept e)) (judgeWhole c m)
-  whole-ends (msg.NoOperation n) = λ cause z. goes-ends z
-  whole-ends (msg.Shutdown n) = λ cause z. record { number = refl; session = refl; stage = refl; last = refl; ping = refl }
-  whole-ends (msg.Ping k) = λ cause z. goes-ends z
-  whole-ends (msg.PingAck k) = λ _ cause z. goes-ends z
-  whole-ends (msg.Error n) = λ cause z. record { number = refl; session = refl; stage = refl; last = refl; ping = refl }
-  whole-ends (msg.IncrementRation t i n) = tt
-  whole-ends (msg.Abort p i n) = tt
-  whole-ends (msg.Close i) = tt
-  whole-ends (msg.Acknowledgment i) = tt
-  whole-ends (msg.Data o k e a i n) = tt
+  whole-ends : (m : Message) (w : ConnectionMessage) → Takes (λ e. EndsAlone c (accept e)) (judgeWhole c m w)
+  whole-ends m no-operation-of = λ cause z. goes-ends z
+  whole-ends m shutdown-of = λ cause z. record { number = refl; session = refl; stage = refl; last = refl; ping = refl }
+  whole-ends m error-of = λ cause z. record { number = refl; session = refl; stage = refl; last = refl; ping = refl }
+  whole-ends m (ping-of k) = λ cause z. goes-ends z
+  whole-ends m (ping-ack-of k) = λ _ cause z. goes-ends z
 
   scope-ends : (m : Message) (z : Scope) → EndsAlone c (judgeScope c m z)
-  scope-ends m whole = settled (EndsAlone c) (breach c) accept (judgeWhole c m) (stops-all (λ n. tt) (judgeWhole c m)) (whole-ends m)
+  scope-ends m (whole w) = settled (EndsAlone c) (breach c) accept (judgeWhole c m w) (stops-all (λ n. tt) (judgeWhole c m w)) (whole-ends m w)
   scope-ends m (of-session i sm) =
       let p = receipt (roleOf (c .stage)) (ownStart c) (farStart c) (at c i) sm in
       settled (EndsAlone c) (breach c) (λ t. accept (setting-session c i (c .last) (message m (t .late)) t)) p (stops-all (λ n. tt) p) (takes-all (λ t cause z. goes-ends z) p)

@@ -25,7 +25,7 @@ use Rattle.state.specs.declared.Stage.the-variants as stage
 use Rattle.state.specs.declared.Ping.{Ping}
 use Rattle.state.specs.declared.Ping.the-variants as ping
 use Rattle.protocol.specs.Queue.{slot}
-use Rattle.protocol.specs.Message.{whole, scope}
+use Rattle.protocol.specs.Message.{ConnectionMessage, whole, scope}
 use Rattle.protocol.specs.Connection.{own-shutdown, line-lost, at, roleOf, exchanged, farNumber, farStart, placed, ending}
 use Rattle.protocol.specs.Judge.{Report, done, Output, header-out, sent, Ending, goes-on, ends, Effect, accept, commit}
 use Rattle.protocol.specs.Call.{startRule, pingRule, shutdownRule, lostRule, isFresh}
@@ -53,7 +53,7 @@ pub header-no-message : (r : Role) (payload : List ℕ) (own n : ℕ) → writte
 unfolding bytesOfAll readMessage parseHeader typed kindOf pick
 header-no-message r payload own n = refl
 
-pub whole-no-event : (r : Role) (payload : List ℕ) (m : Message) (n : ℕ) → Sendable r m payload → scope m ≡ whole
+pub whole-no-event : (r : Role) (payload : List ℕ) (m : Message) (n : ℕ) {w : ConnectionMessage} → Sendable r m payload → scope m ≡ whole w
     → writtenMessage n (readMessage r (bytesOfAll payload (sent m ∷ []))) ≡ []
 whole-no-event r payload m n w e = ap (writtenMessage n) (sent-read r m payload w) ∙ ap (inScope n _) e
 

@@ -16,7 +16,7 @@ use Rattle.wire.specs.declared.Role.{Role}
 use Rattle.wire.specs.declared.Role.the-variants as role
 use Rattle.wire.specs.declared.Message.{Message}
 use Rattle.wire.specs.declared.Message.the-variants as msg
-use Rattle.wire.specs.Message.{isServer, readMessage, secondByte, maySend, kindOfMessage, flagsAllowed, dataFlags}
+use Rattle.wire.specs.Message.{isServer, readMessage, secondByte, numberOf, maySend, kindOfMessage, flagsAllowed, dataFlags}
 use Rattle.wire.specs.Connection.{readConnectionHeader}
 use Rattle.wire.proofs.Bounds.{Sent, message-sent, header-number}
 use Rattle.state.specs.declared.Session.{Session}
@@ -26,10 +26,10 @@ use Rattle.state.specs.declared.Ping.{Ping}
 use Rattle.state.specs.declared.Ping.the-variants as ping
 use Rattle.protocol.specs.Queue.{slot}
 use Rattle.protocol.specs.Plan.{Plan, settle}
-use Rattle.protocol.specs.Message.{SessionMessage, Scope, whole, of-session, scope, numbered}
+use Rattle.protocol.specs.Message.{ConnectionMessage, no-operation-of, shutdown-of, error-of, ping-of, ping-ack-of, SessionMessage, Scope, whole, of-session, scope, numbered}
 use Rattle.protocol.specs.Receipt.{Taken, receipt}
 use Rattle.protocol.specs.Connection.{otherEnd, shutdown-received, error-received, line-lost, at, roleOf, exchanged, farStart, ownStart}
-use Rattle.protocol.specs.Judge.{header-received, message, Output, header-out, sent, Ending, goes-on, ends, Decision, refuse, violate, accept, setting-session, continued, errorAfter, breach, judgeWhole, judgeScope, judge}
+use Rattle.protocol.specs.Judge.{unchanged, header-received, message, Output, header-out, sent, Ending, goes-on, ends, Decision, refuse, violate, accept, setting-session, continued, errorAfter, breach, judgeWhole, judgeScope, judge}
 use Rattle.protocol.specs.Call.{unstarted, answering, headerTaken, messageTaken, reading, receiveGate, receiveRule}
 use Rattle.protocol.specs.Result.{bytesOfAll}
 use Rattle.protocol.specs.Observed.{Event, received, repliesAt, mayArrive, wrongNumber}
@@ -46,7 +46,7 @@ use Rattle.protocol.specs.Fate.{not-ended}
 use Rattle.history.specs.Log.{Call, receive, State, outBy}
 use Rattle.history.specs.Account.{Line, lineByMessage, inScope, sessionIn, writtenMessage}
 use Rattle.history.specs.Fates.{endedByMessage}
-use Rattle.history.specs.Meant.{ungreeted, answeredIn, answerOfAll, ReadInOrder, mayGo}
+use Rattle.history.specs.Meant.{ungreeted, answeredIn, answerOfAll, isPing, ReadInOrder, mayGo}
 use Rattle.history.proofs.Good.{Ok, Good, endedAs, ForSession, setupOf, lineOf, holds, accountOf}
 use Rattle.history.proofs.Sessions.{session-good}
 use Rattle.history.proofs.Written.{Sendable, sent-read-back, opening-read-back, nothing-read-back, nothing-read, only-own, only-other}
@@ -81,18 +81,21 @@ scope-number (msg.Close j) i sm e = cc
 scope-number (msg.Acknowledgment j) i sm e = cc
 scope-number (msg.Data o c f a j n) i sm e = cc
 
--- a session's message leaves the connection as a whole alone
-scope-line : (l : Line) (m : Message) (i : ℕ) (sm : SessionMessage) → scope m ≡ of-session i sm → lineByMessage l m ≡ l
-scope-line l (msg.NoOperation n) i sm e = refl
-scope-line l (msg.Shutdown n) i sm e = absurd (let z : _≡_ {A = ℕ} 0 1 = cc in omega arith)
-scope-line l (msg.Ping n) i sm e = refl
-scope-line l (msg.PingAck n) i sm e = absurd (let z : _≡_ {A = ℕ} 0 1 = cc in omega arith)
-scope-line l (msg.Error n) i sm e = absurd (let z : _≡_ {A = ℕ} 0 1 = cc in omega arith)
-scope-line l (msg.IncrementRation t j n) i sm e = refl
-scope-line l (msg.Abort p j n) i sm e = refl
-scope-line l (msg.Close j) i sm e = refl
-scope-line l (msg.Acknowledgment j) i sm e = refl
-scope-line l (msg.Data o c f a j n) i sm e = refl
+-- the cookie of a Ping is its number
+cookie-bound : (m : Message) (k : ℕ) → scope m ≡ whole (ping-of k) → numberOf m < 65_536 → k < 65_536
+cookie-bound (msg.NoOperation n) k e h = absurd (let z : _≡_ {A = ℕ} 0 1 = cc in omega arith)
+cookie-bound (msg.Shutdown n) k e h = absurd (let z : _≡_ {A = ℕ} 0 1 = cc in omega arith)
+cookie-bound (msg.Ping j) k e h = subst (λ (n : ℕ). n < 65_536) (same e) h
+  where
+    same : whole (ping-of j) ≡ whole (ping-of k) → j ≡ k
+    same z = cc
+cookie-bound (msg.PingAck n) k e h = absurd (let z : _≡_ {A = ℕ} 0 1 = cc in omega arith)
+cookie-bound (msg.Error n) k e h = absurd (let z : _≡_ {A = ℕ} 0 1 = cc in omega arith)
+cookie-bound (msg.IncrementRation t j n) k e h = absurd (let z : _≡_ {A = ℕ} 0 1 = cc in omega arith)
+cookie-bound (msg.Abort p j n) k e h = absurd (let z : _≡_ {A = ℕ} 0 1 = cc in omega arith)
+cookie-bound (msg.Close j) k e h = absurd (let z : _≡_ {A = ℕ} 0 1 = cc in omega arith)
+cookie-bound (msg.Acknowledgment j) k e h = absurd (let z : _≡_ {A = ℕ} 0 1 = cc in omega arith)
+cookie-bound (msg.Data o c f a j n) k e h = absurd (let z : _≡_ {A = ℕ} 0 1 = cc in omega arith)
 
 -- an open Data comes to a server only, a close flag and a Close to a client only
 pub possible : (r : Role) (m : Message) (i : ℕ) (x : SessionMessage) → scope m ≡ of-session i x → Sent (otherEnd r) m → Possible r x
@@ -101,7 +104,7 @@ possible r m i x e f = go r m e (f .sender) (f .flags)
     inner : {j : ℕ} {y : SessionMessage} → of-session j y ≡ of-session i x → y ≡ x
     inner z = cc
 
-    none : {A : Type 0} → whole ≡ of-session i x → A
+    none : {A : Type 0} {w : ConnectionMessage} → whole w ≡ of-session i x → A
     none e = absurd (let z : _≡_ {A = ℕ} 0 1 = cc in omega arith)
 
     not-closing : (b c g a : Bool) → dataFlags role.Client b c g a ≡ true → c ≡ false
@@ -126,32 +129,6 @@ possible r m i x e f = go r m e (f .sender) (f .flags)
     go role.Client (msg.Data true c g a j n) e s f = absurd (false≢true f)
     go role.Client (msg.Data false c g a j n) e s f = subst (Possible role.Client) (inner e) refl
     go role.Server (msg.Data b c g a j n) e s f = subst (Possible role.Server) (inner e) (not-closing b c g a f)
-
--- nor does it end it
-scope-ends : (m : Message) (i : ℕ) (sm : SessionMessage) → scope m ≡ of-session i sm → endedByMessage m ≡ not-ended
-scope-ends (msg.NoOperation n) i sm e = refl
-scope-ends (msg.Shutdown n) i sm e = absurd (let z : _≡_ {A = ℕ} 0 1 = cc in omega arith)
-scope-ends (msg.Ping n) i sm e = refl
-scope-ends (msg.PingAck n) i sm e = refl
-scope-ends (msg.Error n) i sm e = absurd (let z : _≡_ {A = ℕ} 0 1 = cc in omega arith)
-scope-ends (msg.IncrementRation t j n) i sm e = refl
-scope-ends (msg.Abort p j n) i sm e = refl
-scope-ends (msg.Close j) i sm e = refl
-scope-ends (msg.Acknowledgment j) i sm e = refl
-scope-ends (msg.Data o c f a j n) i sm e = refl
-
--- nor does it mean anything for the connection as a whole
-scope-quiet : (m : Message) (i : ℕ) (sm : SessionMessage) → scope m ≡ of-session i sm → answerOfAll m ≡ []
-scope-quiet (msg.NoOperation n) i sm e = refl
-scope-quiet (msg.Shutdown n) i sm e = refl
-scope-quiet (msg.Ping n) i sm e = absurd (let z : _≡_ {A = ℕ} 0 1 = cc in omega arith)
-scope-quiet (msg.PingAck n) i sm e = refl
-scope-quiet (msg.Error n) i sm e = refl
-scope-quiet (msg.IncrementRation t j n) i sm e = refl
-scope-quiet (msg.Abort p j n) i sm e = refl
-scope-quiet (msg.Close j) i sm e = refl
-scope-quiet (msg.Acknowledgment j) i sm e = refl
-scope-quiet (msg.Data o c f a j n) i sm e = refl
 
 module _ (s : State) (o : Ok (setupOf (s .connection)) s) (input room : List ℕ) (live : s .connection .over ≡ false) (begun : unstarted (s .connection .stage) ≡ false) where
   -- ---- a connection header
@@ -191,37 +168,43 @@ module _ (s : State) (o : Ok (setupOf (s .connection)) s) (input room : List ℕ
   -- ---- a message
 
   -- a message of the connection as a whole that gets no answer
-  quiet-whole : (m : Message) (p : Ping) (en : Ending) → scope m ≡ whole → answerOfAll m ≡ []
-      → lineByMessage (lineOf (s .connection)) m ≡ lineOf (continued en (record { sessions = set (s .connection .sessions) 0 (at (s .connection) 0); stage = s .connection .stage; over = s .connection .over; own = s .connection .own; last = s .connection .last; ping = p }))
-      → endedByMessage m ≡ endedAs en → Good (setupOf (s .connection)) s (receive input room)
+  quiet-whole : (m : Message) (x : ConnectionMessage) (p : Ping) (en : Ending) → scope m ≡ whole x → answerOfAll (whole x) ≡ []
+      → lineByMessage (lineOf (s .connection)) (whole x) ≡ lineOf (continued en (record { sessions = set (s .connection .sessions) 0 (at (s .connection) 0); stage = s .connection .stage; over = s .connection .over; own = s .connection .own; last = s .connection .last; ping = p }))
+      → endedByMessage (whole x) ≡ endedAs en → Good (setupOf (s .connection)) s (receive input room)
       (record { number = 0; session = at (s .connection) 0; stage = s .connection .stage; last = s .connection .last; ping = p; ending = en; report = message m false; outs = [] })
   unfolding Every
-  quiet-whole m p en z a line ended =
+  quiet-whole m x p en z a line ended =
       line-good s o (receive input room) (s .connection .stage) p en (message m false) [] refl refl refl (o .far) (inl refl)
       (λ i. ap (λ (l : List Event). l ++ writtenMessage i (readMessage (roleOf (s .connection .stage)) (bytesOfAll [] []))) (ap (inScope i received) z) ∙ nothing-read (roleOf (s .connection .stage)) [] i)
-      line live (ap sessionIn z)
-      (sym (ap (λ (l : List Output). l ++ map (λ x. sent (numbered (sessionIn (scope m)) x)) (answeredIn (roleOf (s .connection .stage)) (holds s 0) (scope m))) a
+      (ap (lineByMessage (lineOf (s .connection))) z ∙ line) live (ap sessionIn z)
+      (sym (ap (λ (l : List Output). l ++ map (λ x. sent (numbered (sessionIn (scope m)) x)) (answeredIn (roleOf (s .connection .stage)) (holds s 0) (scope m))) (ap answerOfAll z ∙ a)
       ∙ ap (λ (y : Scope). map (λ x. sent (numbered (sessionIn (scope m)) x)) (answeredIn (roleOf (s .connection .stage)) (holds s 0) y)) z))
-      (λ _. nothing-read-back (roleOf (s .connection .stage)) []) tt ended
+      (λ _. nothing-read-back (roleOf (s .connection .stage)) []) tt (ap endedByMessage z ∙ ended)
 
-  whole-good : (m : Message) → exchanged (s .connection .stage) ≡ true → Sent (otherEnd (roleOf (s .connection .stage))) m
-      → Takes (λ e. GoodBy s (receive input room) (accept e)) (judgeWhole (s .connection) m)
+  -- a Ping is answered with its PingAck
+  ping-good : (m : Message) (k : ℕ) → scope m ≡ whole (ping-of k) → exchanged (s .connection .stage) ≡ true → Sent (otherEnd (roleOf (s .connection .stage))) m
+      → Good (setupOf (s .connection)) s (receive input room) (unchanged (s .connection) (message m false) (sent (msg.PingAck k) ∷ []))
   unfolding Every
-  whole-good (msg.NoOperation n) up w = quiet-whole (msg.NoOperation n) (s .connection .ping) goes-on refl refl refl refl
-  whole-good (msg.Shutdown n) up w = quiet-whole (msg.Shutdown n) (s .connection .ping) (ends shutdown-received) refl refl refl refl
-  whole-good (msg.Ping k) up w =
+  ping-good m k z up w =
       let sendable : Sendable (roleOf (s .connection .stage)) (msg.PingAck k) [] =
-      record { shift = omega arith; session = omega arith; number = w .number; sender = refl; flags = refl; body = omega arith } in
-      line-good s o (receive input room) (s .connection .stage) (s .connection .ping) goes-on (message (msg.Ping k) false) (sent (msg.PingAck k) ∷ []) refl refl refl (o .far) (inl refl)
-      (λ i. whole-no-event (roleOf (s .connection .stage)) [] (msg.PingAck k) i sendable refl) refl live refl refl
-      (λ _. sent-read-back (roleOf (s .connection .stage)) (msg.PingAck k) [] sendable) (and-both (ap not live) (and-both (greeted-is (s .connection .stage) ∙ up) (eq-eqb k k refl)), tt) refl
-  whole-good (msg.PingAck k) up w = λ _. quiet-whole (msg.PingAck k) ping.None goes-on refl refl refl refl
-  whole-good (msg.Error n) up w = quiet-whole (msg.Error n) (s .connection .ping) (ends error-received) refl refl refl refl
-  whole-good (msg.IncrementRation t i n) up w = tt
-  whole-good (msg.Abort p i n) up w = tt
-  whole-good (msg.Close i) up w = tt
-  whole-good (msg.Acknowledgment i) up w = tt
-  whole-good (msg.Data b c f a i n) up w = tt
+      record { shift = omega arith; session = omega arith; number = cookie-bound m k z (w .number); sender = refl; flags = refl; body = omega arith } in
+      line-good s o (receive input room) (s .connection .stage) (s .connection .ping) goes-on (message m false) (sent (msg.PingAck k) ∷ []) refl refl refl (o .far) (inl refl)
+      (λ i. ap (λ (l : List Event). l ++ writtenMessage i (readMessage (roleOf (s .connection .stage)) (bytesOfAll [] (sent (msg.PingAck k) ∷ [])))) (ap (inScope i received) z)
+      ∙ whole-no-event (roleOf (s .connection .stage)) [] (msg.PingAck k) i sendable refl)
+      (ap (lineByMessage (lineOf (s .connection))) z) live (ap sessionIn z)
+      (sym (ap (λ (l : List Output). l ++ map (λ x. sent (numbered (sessionIn (scope m)) x)) (answeredIn (roleOf (s .connection .stage)) (holds s 0) (scope m))) (ap answerOfAll z)
+      ∙ ap (λ (y : Scope). (sent (msg.PingAck k) ∷ []) ++ map (λ x. sent (numbered (sessionIn (scope m)) x)) (answeredIn (roleOf (s .connection .stage)) (holds s 0) y)) z))
+      (λ _. sent-read-back (roleOf (s .connection .stage)) (msg.PingAck k) [] sendable)
+      (and-both (ap not live) (and-both (greeted-is (s .connection .stage) ∙ up) (ap (isPing k) z ∙ eq-eqb k k refl)), tt) (ap endedByMessage z)
+
+  whole-good : (m : Message) (x : ConnectionMessage) → scope m ≡ whole x → exchanged (s .connection .stage) ≡ true → Sent (otherEnd (roleOf (s .connection .stage))) m
+      → Takes (λ e. GoodBy s (receive input room) (accept e)) (judgeWhole (s .connection) m x)
+  unfolding Every
+  whole-good m no-operation-of z up w = quiet-whole m no-operation-of (s .connection .ping) goes-on z refl refl refl
+  whole-good m shutdown-of z up w = quiet-whole m shutdown-of (s .connection .ping) (ends shutdown-received) z refl refl refl
+  whole-good m error-of z up w = quiet-whole m error-of (s .connection .ping) (ends error-received) z refl refl refl
+  whole-good m (ping-of k) z up w = ping-good m k z up w
+  whole-good m (ping-ack-of k) z up w = λ _. quiet-whole m (ping-ack-of k) ping.None goes-on z refl refl refl
 
   -- what is known where a session's message is taken
   abbrev Taking : ℕ → SessionMessage → Taken → Type 0
@@ -244,20 +227,20 @@ module _ (s : State) (o : Ok (setupOf (s .connection)) s) (input room : List ℕ
         not-told = λ n d. ap (inScope n received) e ∙ only-other n i (received sm) d;
         frame = λ _ _ _. refl;
         long = refl;
-        line = scope-line (lineOf (s .connection)) m i sm e;
+        line = ap (lineByMessage (lineOf (s .connection))) e;
         untold = λ z. absurd (false≢true z);
         fated = z .1 .1 .1;
-        goes-on = scope-ends m i sm e;
+        goes-on = ap endedByMessage e;
         live = live;
         concerns = ap sessionIn e;
         sends = z .1 .0 ∙ sym (ap (answeredIn (roleOf (s .connection .stage)) (holds s i)) e);
-        quiet = scope-quiet m i sm e;
+        quiet = ap answerOfAll e;
         heard = λ payload. (z .1 .1 .0, tt);
       }
 
   judge-good : (m : Message) (z : Scope) → scope m ≡ z → exchanged (s .connection .stage) ≡ true → Sent (otherEnd (roleOf (s .connection .stage))) m
       → GoodBy s (receive input room) (judgeScope (s .connection) m z)
-  judge-good m whole e up w = judged s (receive input room) accept (judgeWhole (s .connection) m) live begun (whole-good m up w)
+  judge-good m (whole x) e up w = judged s (receive input room) accept (judgeWhole (s .connection) m x) live begun (whole-good m x e up w)
   judge-good m (of-session i sm) e up w =
       judged s (receive input room) (λ t. accept (setting-session (s .connection) i (s .connection .last) (message m (t .late)) t)) rule live begun
       (takes-map

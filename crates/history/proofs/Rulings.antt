@@ -42,7 +42,7 @@ module _ (c : Connection) where
   header-ruled r (violation n) h = (h, refl, refl)
 
   scope-ruled : (m : Message) (z : Scope) → Ruled c (judgeScope c m z)
-  scope-ruled m whole = settled (Ruled c) (breach c) accept (judgeWhole c m) (breached (judgeWhole c m) (whole-high c m)) (takes-all (λ e. tt) (judgeWhole c m))
+  scope-ruled m (whole w) = settled (Ruled c) (breach c) accept (judgeWhole c m w) (breached (judgeWhole c m w) (whole-high c m w)) (takes-all (λ e. tt) (judgeWhole c m w))
   scope-ruled m (of-session i sm) =
       let p = receipt (roleOf (c .stage)) (ownStart c) (farStart c) (at c i) sm in
       settled (Ruled c) (breach c) (λ t. accept (setting-session c i (c .last) (message m (t .late)) t)) p

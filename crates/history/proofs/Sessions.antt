@@ -141,7 +141,7 @@ module _ (setup : Setup) (s : State) (k : Call) (n last : ℕ) (rep : Report) (h
       ap (λ (q : Ration). mayWrite (setup .role) q (fold (observe (ownOf setup) q) (holds s n) (reported (reportedOf k rep) k rep)) m) far
       ∙ ap (λ (es : List Event). mayWrite (setup .role) (farStart (s .connection)) (fold (observe (ownOf setup) (farStart (s .connection))) (holds s n) es) m) same ∙ now in
       and-both (ap not (g .live))
-      (ap (messageMayGo setup (accountOf s n) e (numbered n m)) (scope-numbered n m)
+      (ap (messageMayGo setup (accountOf s n) e) (scope-numbered n m)
       ∙ and-both (and-both (and-both (eq-eqb n (reportedOf k rep) (sym (g .concerns))) (greeted-is (s .connection .stage) ∙ g .up)) ours) here)
 
   allows-own : (d : Bool) → ForSession setup s k n last rep h d t → (payload : List ℕ) (ms : List SessionMessage)

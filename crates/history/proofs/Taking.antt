@@ -20,7 +20,7 @@ use Rattle.state.specs.declared.Setup.{Setup}
 use Rattle.state.specs.declared.Connection.{Connection}
 use Rattle.protocol.specs.Queue.{slot}
 use Rattle.protocol.specs.Plan.{Plan, settle}
-use Rattle.protocol.specs.Message.{SessionMessage, Scope, whole, of-session, scope}
+use Rattle.protocol.specs.Message.{ConnectionMessage, no-operation-of, shutdown-of, error-of, ping-of, ping-ack-of, SessionMessage, Scope, whole, of-session, scope}
 use Rattle.protocol.specs.Receipt.{Taken, receipt}
 use Rattle.protocol.specs.Connection.{otherEnd, at, roleOf, exchanged, ownStart, farStart, wellFormed}
 use Rattle.protocol.specs.Judge.{message, Effect, Decision, accept, setting-session, breach, matches, judgeWhole, judgeScope, judge}
@@ -56,38 +56,33 @@ judges c input room m formed live up roomy q =
 
 -- ---- the judging takes exactly what may come
 
-whole-exact : (c : Connection) (m : Message) → scope m ≡ whole → Exactly (wholeMayArrive (pingingOf (c .ping)) m) 28 (judgeWhole c m)
-whole-exact c (msg.NoOperation n) z = refl
-whole-exact c (msg.Shutdown n) z = refl
-whole-exact c (msg.Ping k) z = refl
-whole-exact c (msg.PingAck k) z =
+whole-exact : (c : Connection) (m : Message) (w : ConnectionMessage) → Exactly (wholeMayArrive (pingingOf (c .ping)) w) 28 (judgeWhole c m w)
+whole-exact c m no-operation-of = refl
+whole-exact c m shutdown-of = refl
+whole-exact c m error-of = refl
+whole-exact c m (ping-of k) = refl
+whole-exact c m (ping-ack-of k) =
     ((λ e. (awaits-is (c .ping) k ∙ not-true (matches (c .ping) k) e, refl)), λ e. awaits-is (c .ping) k ∙ not-false (matches (c .ping) k) e)
-whole-exact c (msg.Error n) z = refl
-whole-exact c (msg.IncrementRation t i n) z = absurd (let w : _≡_ {A = ℕ} 0 1 = cc in omega arith)
-whole-exact c (msg.Abort p i n) z = absurd (let w : _≡_ {A = ℕ} 0 1 = cc in omega arith)
-whole-exact c (msg.Close i) z = absurd (let w : _≡_ {A = ℕ} 0 1 = cc in omega arith)
-whole-exact c (msg.Acknowledgment i) z = absurd (let w : _≡_ {A = ℕ} 0 1 = cc in omega arith)
-whole-exact c (msg.Data o k e a i n) z = absurd (let w : _≡_ {A = ℕ} 0 1 = cc in omega arith)
 
 abbrev Reports : Message → Bool → Effect → Type 0
 Reports m late e = e .report ≡ message m late
 
 -- ---- from a state
 
-module _ (s : State) (m : Message) where
+module _ (s : State) where
   -- what a message may come by, as the state holds it
   abbrev test : Scope → Bool
-  test whole = wholeMayArrive (pingingOf (s .connection .ping)) m
+  test (whole w) = wholeMayArrive (pingingOf (s .connection .ping)) w
   test (of-session i x) = mayArrive (roleOf (s .connection .stage)) (ownStart (s .connection)) (holds s i) x
 
 -- whether it is late, as the state holds it
 abbrev lateIn : State → Scope → Bool
-lateIn s whole = false
+lateIn s (whole w) = false
 lateIn s (of-session i x) = lateFor (holds s i .standing) x
 
 -- and with which number it is refused
 abbrev wrongIn : State → Scope → ℕ
-wrongIn s whole = 28
+wrongIn s (whole w) = 28
 wrongIn s (of-session i x) = wrongNumber (roleOf (s .connection .stage)) (holds s i .standing) x
 
 module _ (s : State) (k : Call) (m : Message) where
@@ -108,13 +103,13 @@ module _ (s : State) (k : Call) (m : Message) where
       not-taken e = ap (λ (d : Decision). outBy s k d .answer) (exact-stops (breach (s .connection)) (λ a. accept (good a)) t w p h e)
 
   by-scope : (setup : Setup) → Ok setup s → exchanged (s .connection .stage) ≡ true → Sent (otherEnd (roleOf (s .connection .stage))) m
-      → (z : Scope) → scope m ≡ z → Judged (test s m z) (wrongIn s z) (lateIn s z) (judgeScope (s .connection) m z)
-  by-scope setup o up w whole e = by-plan (λ x. x) (test s m whole) 28 false (judgeWhole (s .connection) m) (whole-exact (s .connection) m e) (whole-reports (s .connection) m)
+      → (z : Scope) → scope m ≡ z → Judged (test s z) (wrongIn s z) (lateIn s z) (judgeScope (s .connection) m z)
+  by-scope setup o up w (whole x) e = by-plan (λ z. z) (test s (whole x)) 28 false (judgeWhole (s .connection) m x) (whole-exact (s .connection) m x) (whole-reports (s .connection) m x)
   by-scope setup o up w (of-session i x) e =
       let hi : i < 128 = subst (λ (n : ℕ). n < 128) (scope-number m i x e) (w .session) in
       let c = s .connection in
       let p = receipt (roleOf (c .stage)) (ownStart c) (farStart c) (at c i) x in
-      by-plan (λ (t : Taken). setting-session c i (c .last) (message m (t .late)) t) (test s m (of-session i x)) (wrongIn s (of-session i x)) (lateIn s (of-session i x)) p
+      by-plan (λ (t : Taken). setting-session c i (c .last) (message m (t .late)) t) (test s (of-session i x)) (wrongIn s (of-session i x)) (lateIn s (of-session i x)) p
       (receipt-exact (roleOf (c .stage)) (ownStart c) (farStart c) (at c i) (slot i (s .queue)) x (formed-up s (own-ok setup s o) up i hi .place) (possible (roleOf (c .stage)) m i x e w))
       (takes-map (λ t e. ap (message m) e) p (receipt-late (roleOf (c .stage)) (at c i) (ownStart c) (farStart c) x))
 
@@ -124,28 +119,28 @@ module _ (setup : Setup) (hh : Proper setup) (queue : List ℕ) where
   line-is : (ks : List Call) → observed setup 0 (log.log setup queue ks) .line ≡ lineOf (log.run setup queue ks .connection)
   line-is ks = ap (λ (a : Account). a .line) (observed-is setup hh queue ks 0 (omega arith))
 
-  may-is : (ks : List Call) (m : Message) (z : Scope) → ((i : ℕ) (x : SessionMessage) → z ≡ of-session i x → i < 128)
-      → test (log.run setup queue ks) m z ≡ mayCome setup (log.log setup queue ks) m z
-  may-is ks m whole h = ap (λ (l : Line). wholeMayArrive (l .pinging) m) (sym (line-is ks))
-  may-is ks m (of-session i x) h =
+  may-is : (ks : List Call) (z : Scope) → ((i : ℕ) (x : SessionMessage) → z ≡ of-session i x → i < 128)
+      → test (log.run setup queue ks) z ≡ mayCome setup (log.log setup queue ks) z
+  may-is ks (whole w) h = ap (λ (l : Line). wholeMayArrive (l .pinging) w) (sym (line-is ks))
+  may-is ks (of-session i x) h =
       let o = run-made setup hh queue ks in
       ap (λ (r : Role). mayArrive r (ownStart (log.run setup queue ks .connection)) (holds (log.run setup queue ks) i) x) (o .role)
       ∙ ap (λ (n : ℕ). mayArrive (setup .role) (fromHeader n) (holds (log.run setup queue ks) i) x) (o .own)
       ∙ ap (λ (a : Account). mayArrive (setup .role) (fromHeader (setup .header)) (a .seen) x) (sym (observed-is setup hh queue ks i (h i x refl)))
 
   late-is : (ks : List Call) (z : Scope) → ((i : ℕ) (x : SessionMessage) → z ≡ of-session i x → i < 128) → lateIn (log.run setup queue ks) z ≡ lateOf setup (log.log setup queue ks) z
-  late-is ks whole h = refl
+  late-is ks (whole w) h = refl
   late-is ks (of-session i x) h = ap (λ (a : Account). lateFor (a .seen .standing) x) (sym (observed-is setup hh queue ks i (h i x refl)))
 
   wrong-is : (ks : List Call) (z : Scope) → ((i : ℕ) (x : SessionMessage) → z ≡ of-session i x → i < 128) → wrongIn (log.run setup queue ks) z ≡ wrongFor setup (log.log setup queue ks) z
-  wrong-is ks whole h = refl
+  wrong-is ks (whole w) h = refl
   wrong-is ks (of-session i x) h =
       ap (λ (r : Role). wrongNumber r (holds (log.run setup queue ks) i .standing) x) (run-made setup hh queue ks .role)
       ∙ ap (λ (a : Account). wrongNumber (setup .role) (a .seen .standing) x) (sym (observed-is setup hh queue ks i (h i x refl)))
 
   judged-calls : (ks : List Call) (input room : List ℕ) (m : Message) → Listening setup (log.log setup queue ks) (length room) → readMessage (otherEnd (setup .role)) input ≡ ok m
-      → (mayCome setup (log.log setup queue ks) m (scope m) ≡ true → out (log.run setup queue ks) (receive input room) .answer ≡ ok (message m (lateOf setup (log.log setup queue ks) (scope m))))
-      × (mayCome setup (log.log setup queue ks) m (scope m) ≡ false → out (log.run setup queue ks) (receive input room) .answer ≡ violation (wrongFor setup (log.log setup queue ks) (scope m)))
+      → (mayCome setup (log.log setup queue ks) (scope m) ≡ true → out (log.run setup queue ks) (receive input room) .answer ≡ ok (message m (lateOf setup (log.log setup queue ks) (scope m))))
+      × (mayCome setup (log.log setup queue ks) (scope m) ≡ false → out (log.run setup queue ks) (receive input room) .answer ≡ violation (wrongFor setup (log.log setup queue ks) (scope m)))
   unfolding out judge
   judged-calls ks input room m l q =
       let s = log.run setup queue ks in
@@ -158,14 +153,14 @@ module _ (setup : Setup) (hh : Proper setup) (queue : List ℕ) where
       let d = judges (s .connection) input (length room) m (ok-formed setup s o) live up (l .roomy) q′ in
       let j = by-scope s (receive input room) m setup o up w (scope m) refl in
       let number : (i : ℕ) (x : SessionMessage) → scope m ≡ of-session i x → i < 128 = λ i x e. subst (λ (n : ℕ). n < 128) (scope-number m i x e) (w .session) in
-      let t = may-is ks m (scope m) number in
+      let t = may-is ks (scope m) number in
       let same = ap (λ (z : Decision). outBy s (receive input room) z .answer) d in
       ((λ e. same ∙ j .0 (t ∙ e) ∙ ap (λ (b : Bool). ok (message m b)) (late-is ks (scope m) number)), λ e. same ∙ j .1 (t ∙ e) ∙ ap violation (wrong-is ks (scope m) number))
 
   Both : List Entry → Entry → Message → Type 0
   Both a e m =
-      (mayCome setup a m (scope m) ≡ true → e .answer ≡ ok (message m (lateOf setup a (scope m))))
-      × (mayCome setup a m (scope m) ≡ false → e .answer ≡ violation (wrongFor setup a (scope m)))
+      (mayCome setup a (scope m) ≡ true → e .answer ≡ ok (message m (lateOf setup a (scope m))))
+      × (mayCome setup a (scope m) ≡ false → e .answer ≡ violation (wrongFor setup a (scope m)))
 
   judged-log : (a : List Entry) (e : Entry) (input room : List ℕ) (m : Message) → At setup queue a e → e .call ≡ receive input room → Listening setup a (length room)
       → readMessage (otherEnd (setup .role)) input ≡ ok m → Both a e m
@@ -203,9 +198,9 @@ module _ (setup : Setup) (hh : Proper setup) (queue : List ℕ) where
   same-late e = cc
 
   only-log : (calls : List Call) (a c : List Entry) (e : Entry) (input room : List ℕ) (m : Message) (late : Bool) → log.log setup queue calls ≡ a ++ (e ∷ c) → e .call ≡ receive input room
-      → e .answer ≡ ok (message m late) → Listening setup a (length room) × (mayCome setup a m (scope m) ≡ true) × (late ≡ lateOf setup a (scope m))
+      → e .answer ≡ ok (message m late) → Listening setup a (length room) × (mayCome setup a (scope m) ≡ true) × (late ≡ lateOf setup a (scope m))
   unfolding Both
-  only-log calls a c e input room m late z h q = (listens, go (mayCome setup a m (scope m)) refl .0, go (mayCome setup a m (scope m)) refl .1)
+  only-log calls a c e input room m late z h q = (listens, go (mayCome setup a (scope m)) refl .0, go (mayCome setup a (scope m)) refl .1)
     where
       listens : Listening setup a (length room)
       listens = listens-log calls a c e input room m late z h q
@@ -215,7 +210,7 @@ module _ (setup : Setup) (hh : Proper setup) (queue : List ℕ) where
           judged-log a e input room m (entry-at setup queue calls a c e z) h (listens-log calls a c e input room m late z h q)
           (receive-reads setup hh queue calls .taken a c e input room (message m late) z h q .0)
 
-      go : (b : Bool) → mayCome setup a m (scope m) ≡ b → (mayCome setup a m (scope m) ≡ true) × (late ≡ lateOf setup a (scope m))
+      go : (b : Bool) → mayCome setup a (scope m) ≡ b → (mayCome setup a (scope m) ≡ true) × (late ≡ lateOf setup a (scope m))
       go true t = (t, same-late (ok-same (sym q ∙ both .0 t)))
       go false t = absurd (violation-not-ok (sym (both .1 t) ∙ q))
 

@@ -11,10 +11,9 @@ use Rattle.ration.specs.declared.Ration.the-variants as ration
 use Rattle.ration.specs.Ration.{fromHeader}
 use Rattle.wire.specs.declared.Role.{Role}
 use Rattle.wire.specs.declared.Message.{Message}
-use Rattle.wire.specs.declared.Message.the-variants as msg
 use Rattle.wire.specs.Message.{readMessage}
 use Rattle.state.specs.declared.Setup.{Setup}
-use Rattle.protocol.specs.Message.{SessionMessage, Scope, whole, of-session, scope}
+use Rattle.protocol.specs.Message.{no-operation-of, shutdown-of, error-of, ping-of, ping-ack-of, SessionMessage, Scope, whole, of-session, scope}
 use Rattle.protocol.specs.Judge.{Report, done, served, header-received, message}
 use Rattle.protocol.specs.Observed.{Greeting, no-header, own-header, both-headers, startTold, Pinging, no-ping, pinged, Event, opens, finishes, aborts, puts, received, wrote, silent, unused, Seen, observe}
 use Rattle.history.specs.Log.{Call, start, open-session, put, finish, turn, grant, abort, close, shutdown, lost, receive, Entry}
@@ -52,23 +51,19 @@ lineByCall l lost = lineOver l
 lineByCall l (receive input room) = l
 
 -- and so do a Shutdown or an Error taken
-abbrev pub lineByMessage : Line → Message → Line
-lineByMessage l (msg.NoOperation n) = l
-lineByMessage l (msg.Shutdown n) = lineOver l
-lineByMessage l (msg.Ping k) = l
-lineByMessage l (msg.PingAck k) = withPinging no-ping l
-lineByMessage l (msg.Error n) = lineOver l
-lineByMessage l (msg.IncrementRation s i n) = l
-lineByMessage l (msg.Abort p i n) = l
-lineByMessage l (msg.Close i) = l
-lineByMessage l (msg.Acknowledgment i) = l
-lineByMessage l (msg.Data o c e a i n) = l
+abbrev pub lineByMessage : Line → Scope → Line
+lineByMessage l (whole no-operation-of) = l
+lineByMessage l (whole shutdown-of) = lineOver l
+lineByMessage l (whole error-of) = lineOver l
+lineByMessage l (whole (ping-of k)) = l
+lineByMessage l (whole (ping-ack-of k)) = withPinging no-ping l
+lineByMessage l (of-session i m) = l
 
 abbrev pub lineByReport : Line → Call → Report → Line
 lineByReport l k done = lineByCall l k
 lineByReport l k (served n) = l
 lineByReport l k (header-received far) = withGreeting (both-headers far) l
-lineByReport l k (message m late) = lineByMessage l m
+lineByReport l k (message m late) = lineByMessage l (scope m)
 
 -- a refused call changes nothing, except that a refusal from 20 up makes the connection over
 abbrev pub lineByAnswer : Line → Call → Result Report → Line
@@ -100,7 +95,7 @@ asked n lost = []
 asked n (receive input room) = []
 
 abbrev pub inScope : ℕ → (SessionMessage → Event) → Scope → List Event
-inScope n f whole = []
+inScope n f (whole w) = []
 inScope n f (of-session i m) = only n i (f m)
 
 -- a message that is taken, by the report
@@ -147,7 +142,7 @@ askedOf lost = 0
 askedOf (receive input room) = 0
 
 abbrev pub sessionIn : Scope → ℕ
-sessionIn whole = 0
+sessionIn (whole w) = 0
 sessionIn (of-session i m) = i
 
 abbrev pub reportedOf : Call → Report → ℕ

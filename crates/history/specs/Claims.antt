@@ -26,7 +26,7 @@ use Rattle.state.specs.declared.Connection.{Connection}
 use Rattle.state.specs.declared.Setup.{Setup}
 use Rattle.protocol.specs.Slot.{queueSize, turnRoom}
 use Rattle.protocol.specs.Queue.{slot}
-use Rattle.protocol.specs.Message.{numbered, Scope, whole, of-session, scope}
+use Rattle.protocol.specs.Message.{ConnectionMessage, no-operation-of, shutdown-of, error-of, ping-of, ping-ack-of, numbered, Scope, whole, of-session, scope}
 use Rattle.protocol.specs.Connection.{otherEnd, at}
 use Rattle.protocol.specs.Judge.{Report, done, served, header-received, message, Output}
 use Rattle.laws.specs.Room.{overlaid}
@@ -227,44 +227,39 @@ pub record Listening (s : Setup) (a : List Entry) (room : ℕ) : Type 0 where
   pub roomy : 12 ≤ room
 
 -- a message of the connection as a whole may always arrive, but for a PingAck, which has to match the outstanding cookie
-abbrev pub wholeMayArrive : Pinging → Message → Bool
-wholeMayArrive p (msg.NoOperation n) = true
-wholeMayArrive p (msg.Shutdown n) = true
-wholeMayArrive p (msg.Ping k) = true
-wholeMayArrive p (msg.PingAck k) = awaits p k
-wholeMayArrive p (msg.Error n) = true
-wholeMayArrive p (msg.IncrementRation t i n) = false
-wholeMayArrive p (msg.Abort b i n) = false
-wholeMayArrive p (msg.Close i) = false
-wholeMayArrive p (msg.Acknowledgment i) = false
-wholeMayArrive p (msg.Data o c e b i n) = false
+abbrev pub wholeMayArrive : Pinging → ConnectionMessage → Bool
+wholeMayArrive p no-operation-of = true
+wholeMayArrive p shutdown-of = true
+wholeMayArrive p error-of = true
+wholeMayArrive p (ping-of k) = true
+wholeMayArrive p (ping-ack-of k) = awaits p k
 
 -- an Acknowledgment may arrive wherever its sender has not terminated the session, asked for or not
-abbrev pub mayCome : Setup → List Entry → Message → Scope → Bool
-mayCome s a m whole = wholeMayArrive (observed s 0 a .line .pinging) m
-mayCome s a m (of-session i x) = mayArrive (s .role) (fromHeader (s .header)) (observed s i a .seen) x
+abbrev pub mayCome : Setup → List Entry → Scope → Bool
+mayCome s a (whole w) = wholeMayArrive (observed s 0 a .line .pinging) w
+mayCome s a (of-session i x) = mayArrive (s .role) (fromHeader (s .header)) (observed s i a .seen) x
 
 -- a message is late where it crossed our end of its session
 abbrev pub lateOf : Setup → List Entry → Scope → Bool
-lateOf s a whole = false
+lateOf s a (whole w) = false
 lateOf s a (of-session i x) = lateFor (observed s i a .seen .standing) x
 
 -- the number that a message which may not come is refused with: 28 for a PingAck, else 25, 26 or 27
 abbrev pub wrongFor : Setup → List Entry → Scope → ℕ
-wrongFor s a whole = 28
+wrongFor s a (whole w) = 28
 wrongFor s a (of-session i x) = wrongNumber (s .role) (observed s i a .seen .standing) x
 
 pub record TakesExactly (s : Setup) (log : List Entry) : Type 0 where
   pub takes : (a c : List Entry) (e : Entry) (input room : List ℕ) (m : Message) → log ≡ a ++ (e ∷ c) → e .call ≡ receive input room
       → Listening s a (length room) → readMessage (otherEnd (s .role)) input ≡ ok m
-      → mayCome s a m (scope m) ≡ true → e .answer ≡ ok (message m (lateOf s a (scope m)))
+      → mayCome s a (scope m) ≡ true → e .answer ≡ ok (message m (lateOf s a (scope m)))
   pub else-violated : (a c : List Entry) (e : Entry) (input room : List ℕ) (m : Message) → log ≡ a ++ (e ∷ c) → e .call ≡ receive input room
       → Listening s a (length room) → readMessage (otherEnd (s .role)) input ≡ ok m
-      → mayCome s a m (scope m) ≡ false → e .answer ≡ violation (wrongFor s a (scope m))
+      → mayCome s a (scope m) ≡ false → e .answer ≡ violation (wrongFor s a (scope m))
   -- and only there
   pub only : (a c : List Entry) (e : Entry) (input room : List ℕ) (m : Message) (late : Bool) → log ≡ a ++ (e ∷ c) → e .call ≡ receive input room
       → e .answer ≡ ok (message m late)
-      → Listening s a (length room) × (mayCome s a m (scope m) ≡ true) × (late ≡ lateOf s a (scope m))
+      → Listening s a (length room) × (mayCome s a (scope m) ≡ true) × (late ≡ lateOf s a (scope m))
 
 -- ---- what a receive takes is what the reader gives on its input, and as many bytes are used
 

@@ -3,9 +3,8 @@ use Prim.Native.Nat.{ℕ}
 use mathlib.Core.List.{List}
 use Rattle.laws.specs.Result.{Result, ok, refused, violation}
 use Rattle.laws.specs.Runs.{fold}
-use Rattle.wire.specs.declared.Message.{Message}
-use Rattle.wire.specs.declared.Message.the-variants as msg
 use Rattle.state.specs.declared.Setup.{Setup}
+use Rattle.protocol.specs.Message.{no-operation-of, shutdown-of, error-of, ping-of, ping-ack-of, Scope, whole, of-session, scope}
 use Rattle.protocol.specs.Judge.{Report, done, served, header-received, message}
 use Rattle.protocol.specs.Asked.{isUnsent}
 use Rattle.protocol.specs.Fate.{Fate, no-fate, fateAfter, Ended, not-ended, by-shutdown, by-error, by-own-shutdown, by-lost-line, fateEnded}
@@ -28,24 +27,20 @@ endedByCall (shutdown room) = by-own-shutdown
 endedByCall lost = by-lost-line
 endedByCall (receive input room) = not-ended
 
-abbrev pub endedByMessage : Message → Ended
-endedByMessage (msg.NoOperation n) = not-ended
-endedByMessage (msg.Shutdown n) = by-shutdown
-endedByMessage (msg.Ping k) = not-ended
-endedByMessage (msg.PingAck k) = not-ended
-endedByMessage (msg.Error n) = by-error
-endedByMessage (msg.IncrementRation t i n) = not-ended
-endedByMessage (msg.Abort p i n) = not-ended
-endedByMessage (msg.Close i) = not-ended
-endedByMessage (msg.Acknowledgment i) = not-ended
-endedByMessage (msg.Data o c e a i n) = not-ended
+abbrev pub endedByMessage : Scope → Ended
+endedByMessage (whole no-operation-of) = not-ended
+endedByMessage (whole shutdown-of) = by-shutdown
+endedByMessage (whole error-of) = by-error
+endedByMessage (whole (ping-of k)) = not-ended
+endedByMessage (whole (ping-ack-of k)) = not-ended
+endedByMessage (of-session i m) = not-ended
 
 -- a violation found by us counts as a lost line
 abbrev pub endTold : Call → Result Report → Ended
 endTold k (ok done) = endedByCall k
 endTold k (ok (served n)) = not-ended
 endTold k (ok (header-received far)) = not-ended
-endTold k (ok (message m late)) = endedByMessage m
+endTold k (ok (message m late)) = endedByMessage (scope m)
 endTold k (refused n) = not-ended
 endTold k (violation n) = by-lost-line
 

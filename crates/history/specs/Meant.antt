@@ -13,7 +13,7 @@ use Rattle.wire.specs.declared.Message.the-variants as msg
 use Rattle.wire.specs.Message.{isClient, isServer, bodyLength, readMessage}
 use Rattle.wire.specs.Connection.{readConnectionHeader}
 use Rattle.state.specs.declared.Setup.{Setup}
-use Rattle.protocol.specs.Message.{SessionMessage, increment-of, abort-of, close-of, Scope, whole, of-session, scope, numbered}
+use Rattle.protocol.specs.Message.{ConnectionMessage, no-operation-of, shutdown-of, error-of, ping-of, ping-ack-of, SessionMessage, increment-of, abort-of, close-of, Scope, whole, of-session, scope, numbered}
 use Rattle.protocol.specs.Judge.{Report, done, served, header-received, message, Output, header-out, sent}
 use Rattle.protocol.specs.Observed.{Greeting, no-header, own-header, both-headers, greeted, Seen, repliesTo, dueData, mayWrite, fromRole}
 use Rattle.protocol.specs.Asked.{isUnsent}
@@ -50,7 +50,7 @@ askedToSend lost v = []
 askedToSend (receive input room) v = []
 
 abbrev pub answeredIn : Role → Seen → Scope → List SessionMessage
-answeredIn r v whole = []
+answeredIn r v (whole w) = []
 answeredIn r v (of-session i m) = repliesTo r v m
 
 -- a turn sends what is due, a message received gets its answer
@@ -76,24 +76,20 @@ askedOfAll own lost = []
 askedOfAll own (receive input room) = []
 
 -- a Ping is answered with a PingAck of its cookie
-abbrev pub answerOfAll : Message → List Output
-answerOfAll (msg.NoOperation n) = []
-answerOfAll (msg.Shutdown n) = []
-answerOfAll (msg.Ping k) = sent (msg.PingAck k) ∷ []
-answerOfAll (msg.PingAck k) = []
-answerOfAll (msg.Error n) = []
-answerOfAll (msg.IncrementRation t i n) = []
-answerOfAll (msg.Abort p i n) = []
-answerOfAll (msg.Close i) = []
-answerOfAll (msg.Acknowledgment i) = []
-answerOfAll (msg.Data o c e a i n) = []
+abbrev pub answerOfAll : Scope → List Output
+answerOfAll (whole no-operation-of) = []
+answerOfAll (whole shutdown-of) = []
+answerOfAll (whole error-of) = []
+answerOfAll (whole (ping-of k)) = sent (msg.PingAck k) ∷ []
+answerOfAll (whole (ping-ack-of k)) = []
+answerOfAll (of-session i m) = []
 
 -- a server answers the first header with its own
 abbrev pub meantOfAll : Setup → Call → Report → List Output
 meantOfAll s k done = askedOfAll (s .header) k
 meantOfAll s k (served n) = []
 meantOfAll s k (header-received far) = pick (isServer (s .role)) (header-out (s .header) ∷ []) []
-meantOfAll s k (message m late) = answerOfAll m
+meantOfAll s k (message m late) = answerOfAll (scope m)
 
 -- a violation is answered with Error, after our header where that was not sent; a refusal below 20 means nothing
 abbrev pub meantBy : Setup → Account → Call → Result Report → List Output
@@ -112,22 +108,21 @@ ReadInOrder from bytes (sent m ∷ outs) = (readMessage from bytes ≡ ok m) × 
 -- ---- what may be written
 
 -- what is taken is a Ping with the cookie
-abbrev pub isPing : ℕ → Result Report → Bool
-isPing k (ok done) = false
-isPing k (ok (served n)) = false
-isPing k (ok (header-received far)) = false
-isPing k (ok (message (msg.NoOperation n) late)) = false
-isPing k (ok (message (msg.Shutdown n) late)) = false
-isPing k (ok (message (msg.Ping j) late)) = eqb j k
-isPing k (ok (message (msg.PingAck j) late)) = false
-isPing k (ok (message (msg.Error n) late)) = false
-isPing k (ok (message (msg.IncrementRation t i n) late)) = false
-isPing k (ok (message (msg.Abort p i n) late)) = false
-isPing k (ok (message (msg.Close i) late)) = false
-isPing k (ok (message (msg.Acknowledgment i) late)) = false
-isPing k (ok (message (msg.Data o c e a i n) late)) = false
-isPing k (refused n) = false
-isPing k (violation n) = false
+abbrev pub isPing : ℕ → Scope → Bool
+isPing k (whole no-operation-of) = false
+isPing k (whole shutdown-of) = false
+isPing k (whole error-of) = false
+isPing k (whole (ping-of j)) = eqb j k
+isPing k (whole (ping-ack-of j)) = false
+isPing k (of-session i m) = false
+
+abbrev pub takesPing : ℕ → Result Report → Bool
+takesPing k (ok done) = false
+takesPing k (ok (served n)) = false
+takesPing k (ok (header-received far)) = false
+takesPing k (ok (message m late)) = isPing k (scope m)
+takesPing k (refused n) = false
+takesPing k (violation n) = false
 
 abbrev pub isViolation : Result Report → Bool
 isViolation (ok r) = false
@@ -145,27 +140,22 @@ greets r (violation n) = isServer r
 
 -- a PingAck answers one Ping, a Shutdown is a server's, an Error answers a violation; nothing else goes before the headers are
 -- exchanged
-abbrev pub wholeMayGo : Role → Bool → Result Report → Message → Bool
-wholeMayGo r up answer (msg.NoOperation n) = up
-wholeMayGo r up answer (msg.Shutdown n) = up && isServer r
-wholeMayGo r up answer (msg.Ping k) = up
-wholeMayGo r up answer (msg.PingAck k) = up && isPing k answer
-wholeMayGo r up answer (msg.Error n) = isViolation answer
-wholeMayGo r up answer (msg.IncrementRation t i n) = false
-wholeMayGo r up answer (msg.Abort p i n) = false
-wholeMayGo r up answer (msg.Close i) = false
-wholeMayGo r up answer (msg.Acknowledgment i) = false
-wholeMayGo r up answer (msg.Data o c e a i n) = false
+abbrev pub wholeMayGo : Role → Bool → Result Report → ConnectionMessage → Bool
+wholeMayGo r up answer no-operation-of = up
+wholeMayGo r up answer shutdown-of = up && isServer r
+wholeMayGo r up answer error-of = isViolation answer
+wholeMayGo r up answer (ping-of k) = up
+wholeMayGo r up answer (ping-ack-of k) = up && takesPing k answer
 
 -- a session's message is of the number that the entry concerns, of a type and with flags that are ours, and one that 002 lets us
 -- send now
-abbrev pub messageMayGo : Setup → Account → Entry → Message → Scope → Bool
-messageMayGo s a e m whole = wholeMayGo (s .role) (greeted (a .line .greeting)) (e .answer) m
-messageMayGo s a e m (of-session i x) =
+abbrev pub messageMayGo : Setup → Account → Entry → Scope → Bool
+messageMayGo s a e (whole w) = wholeMayGo (s .role) (greeted (a .line .greeting)) (e .answer) w
+messageMayGo s a e (of-session i x) =
     eqb i (concerned (e .call) (e .answer)) && greeted (a .line .greeting)
     && fromRole (s .role) x && mayWrite (s .role) (farOf (a .line)) (seenBefore s (concerned (e .call) (e .answer)) a e) x
 
 -- nothing goes on a connection that is over, and our header goes once and in its turn
 abbrev pub mayGo : Setup → Account → Entry → Output → Bool
 mayGo s a e (header-out n) = not (a .line .over) && ungreeted (a .line .greeting) && greets (s .role) (e .answer)
-mayGo s a e (sent m) = not (a .line .over) && messageMayGo s a e m (scope m)
+mayGo s a e (sent m) = not (a .line .over) && messageMayGo s a e (scope m)

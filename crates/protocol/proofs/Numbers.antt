@@ -7,7 +7,6 @@ use Rattle.ration.specs.declared.Ration.{Ration}
 use Rattle.wire.specs.declared.Role.{Role}
 use Rattle.wire.specs.declared.Role.the-variants as role
 use Rattle.wire.specs.declared.Message.{Message}
-use Rattle.wire.specs.declared.Message.the-variants as msg
 use Rattle.state.specs.declared.Side.{Side}
 use Rattle.state.specs.declared.Side.the-variants as side
 use Rattle.state.specs.declared.Sides.{Sides}
@@ -15,7 +14,7 @@ use Rattle.state.specs.declared.Sides.the-variants as sides
 use Rattle.state.specs.declared.Outcome.the-variants as outcome
 use Rattle.state.specs.declared.Session.{Session}
 use Rattle.state.specs.declared.Connection.{Connection}
-use Rattle.protocol.specs.Message.{SessionMessage, data-of, increment-of, abort-of, close-of, acknowledgment-of}
+use Rattle.protocol.specs.Message.{ConnectionMessage, no-operation-of, shutdown-of, error-of, ping-of, ping-ack-of, SessionMessage, data-of, increment-of, abort-of, close-of, acknowledgment-of}
 use Rattle.protocol.specs.Session.{Move, to, wrong, follow, settled}
 use Rattle.protocol.specs.Receipt.{aborted, dataTo, incrementTo, abortTo, closeTo, arriving, other, receipt}
 use Rattle.protocol.specs.Ask.{openOf, openAsk, putAsk, finishAsk, grantAsk, abortOf, abortAsk, closeOf, closeAsk, turnOf, turnAsk}
@@ -141,14 +140,9 @@ module _ (x : Session) where
   receipt-high r own far close-of = other-high r close-of (x .sides)
   receipt-high r own far acknowledgment-of = other-high r acknowledgment-of (x .sides)
 
-pub whole-high : (c : Connection) (m : Message) → Stops High (judgeWhole c m)
-whole-high c (msg.NoOperation n) = tt
-whole-high c (msg.Shutdown n) = tt
-whole-high c (msg.Ping k) = tt
-whole-high c (msg.PingAck k) = (refl, tt)
-whole-high c (msg.Error n) = tt
-whole-high c (msg.IncrementRation t i n) = refl
-whole-high c (msg.Abort p i n) = refl
-whole-high c (msg.Close i) = refl
-whole-high c (msg.Acknowledgment i) = refl
-whole-high c (msg.Data o k e a i n) = refl
+pub whole-high : (c : Connection) (m : Message) (w : ConnectionMessage) → Stops High (judgeWhole c m w)
+whole-high c m no-operation-of = tt
+whole-high c m shutdown-of = tt
+whole-high c m error-of = tt
+whole-high c m (ping-of k) = tt
+whole-high c m (ping-ack-of k) = (refl, tt)

@@ -10,7 +10,7 @@ use Rattle.wire.specs.declared.Message.{Message}
 use Rattle.wire.specs.declared.Message.the-variants as msg
 use Rattle.wire.specs.Message.{bodyLength, header}
 use Rattle.state.specs.declared.Connection.{Connection}
-use Rattle.protocol.specs.Message.{Scope, whole, of-session, scope}
+use Rattle.protocol.specs.Message.{ConnectionMessage, no-operation-of, shutdown-of, error-of, ping-of, ping-ack-of, Scope, whole, of-session, scope}
 use Rattle.protocol.specs.Receipt.{receipt}
 use Rattle.protocol.specs.Ask.{turnAsk}
 use Rattle.protocol.specs.Connection.{at, roleOf, ownStart, farStart}
@@ -40,21 +40,16 @@ Tells m (refuse n) = Unit {0}
 Tells m (violate b) = Unit {0}
 Tells m (accept e) = (late : Bool) × (e .report ≡ message m late)
 
-pub whole-reports : (c : Connection) (m : Message) → Takes (λ e. e .report ≡ message m false) (judgeWhole c m)
-whole-reports c (msg.NoOperation n) = refl
-whole-reports c (msg.Shutdown n) = refl
-whole-reports c (msg.Ping k) = refl
-whole-reports c (msg.PingAck k) = λ _. refl
-whole-reports c (msg.Error n) = refl
-whole-reports c (msg.IncrementRation t i n) = tt
-whole-reports c (msg.Abort p i n) = tt
-whole-reports c (msg.Close i) = tt
-whole-reports c (msg.Acknowledgment i) = tt
-whole-reports c (msg.Data o k e a i n) = tt
+pub whole-reports : (c : Connection) (m : Message) (w : ConnectionMessage) → Takes (λ e. e .report ≡ message m false) (judgeWhole c m w)
+whole-reports c m no-operation-of = refl
+whole-reports c m shutdown-of = refl
+whole-reports c m error-of = refl
+whole-reports c m (ping-of k) = refl
+whole-reports c m (ping-ack-of k) = λ _. refl
 
 scope-tells : (c : Connection) (m : Message) (z : Scope) → Tells m (judgeScope c m z)
-scope-tells c m whole = settled (Tells m) (breach c) accept (judgeWhole c m) (stops-all (λ n. tt) (judgeWhole c m))
-    (takes-map (λ e h. (false, h)) (judgeWhole c m) (whole-reports c m))
+scope-tells c m (whole w) = settled (Tells m) (breach c) accept (judgeWhole c m w) (stops-all (λ n. tt) (judgeWhole c m w))
+    (takes-map (λ e h. (false, h)) (judgeWhole c m w) (whole-reports c m w))
 scope-tells c m (of-session i x) =
     let p = receipt (roleOf (c .stage)) (ownStart c) (farStart c) (at c i) x in
     settled (Tells m) (breach c) (λ t. accept (setting-session c i (c .last) (message m (t .late)) t)) p (stops-all (λ n. tt) p) (takes-all (λ t. (t .late, refl)) p)

@@ -12,8 +12,8 @@ use Rattle.state.specs.declared.Ping.{Ping}
 use Rattle.state.specs.declared.Ping.the-variants as ping
 use Rattle.state.specs.declared.Connection.{Connection}
 use Rattle.state.specs.With.{withSession, withStage, withLast, withPing}
-use Rattle.protocol.specs.Plan.{Plan, stop, check, take, settle}
-use Rattle.protocol.specs.Message.{Scope, whole, of-session, scope, numbered}
+use Rattle.protocol.specs.Plan.{Plan, check, take, settle}
+use Rattle.protocol.specs.Message.{ConnectionMessage, no-operation-of, shutdown-of, error-of, ping-of, ping-ack-of, Scope, whole, of-session, scope, numbered}
 use Rattle.protocol.specs.Receipt.{Taken, receipt}
 use Rattle.protocol.specs.Connection.{Cause, shutdown-received, error-received, line-lost, at, roleOf, ownStart, farStart, ended}
 
@@ -104,22 +104,17 @@ abbrev pub matches : Ping → ℕ → Bool
 matches ping.None k = false
 matches (ping.Outstanding j) k = eqb j k
 
--- a message of the connection as a whole: 28 for a PingAck that matches no outstanding cookie; the messages of a session never get here
-abbrev pub judgeWhole : Connection → Message → Plan Effect
-judgeWhole c (msg.NoOperation n) = take (unchanged c (message (msg.NoOperation n) false) [])
-judgeWhole c (msg.Shutdown n) = take (ends-by c shutdown-received (message (msg.Shutdown n) false) [])
-judgeWhole c (msg.Ping k) = take (unchanged c (message (msg.Ping k) false) (sent (msg.PingAck k) ∷ []))
-judgeWhole c (msg.PingAck k) =
-    check (not (matches (c .ping) k)) 28 (take (setting-ping c ping.None (message (msg.PingAck k) false) []))
-judgeWhole c (msg.Error n) = take (ends-by c error-received (message (msg.Error n) false) [])
-judgeWhole c (msg.IncrementRation s i n) = stop 25
-judgeWhole c (msg.Abort p i n) = stop 25
-judgeWhole c (msg.Close i) = stop 25
-judgeWhole c (msg.Acknowledgment i) = stop 25
-judgeWhole c (msg.Data o k e a i n) = stop 25
+-- 28 for a PingAck that matches no outstanding cookie
+abbrev pub judgeWhole : Connection → Message → ConnectionMessage → Plan Effect
+judgeWhole c m no-operation-of = take (unchanged c (message m false) [])
+judgeWhole c m shutdown-of = take (ends-by c shutdown-received (message m false) [])
+judgeWhole c m error-of = take (ends-by c error-received (message m false) [])
+judgeWhole c m (ping-of k) = take (unchanged c (message m false) (sent (msg.PingAck k) ∷ []))
+judgeWhole c m (ping-ack-of k) = check (not (matches (c .ping) k)) 28 (take (setting-ping c ping.None (message m false) []))
 
+-- `m` is the message, as it is reported
 abbrev pub judgeScope : Connection → Message → Scope → Decision
-judgeScope c m whole = settle (breach c) accept (judgeWhole c m)
+judgeScope c m (whole w) = settle (breach c) accept (judgeWhole c m w)
 judgeScope c m (of-session i s) =
     settle (breach c) (λ t. accept (setting-session c i (c .last) (message m (t .late)) t))
     (receipt (roleOf (c .stage)) (ownStart c) (farStart c) (at c i) s)

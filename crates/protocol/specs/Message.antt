@@ -1,9 +1,14 @@
--- The messages of one session, without its number.
+-- The messages of the connection as a whole, by what they do, and those of one session, without its number.
 use Prim.Native.Nat.{ℕ}
 use mathlib.Core.Bool.{Bool}
 use Rattle.wire.specs.declared.Message.{Message}
 use Rattle.wire.specs.declared.Message.the-variants as msg
 use Rattle.wire.specs.Message.{effectiveIncrement}
+
+-- a detail does nothing
+pub data ConnectionMessage : Type 0 where
+  no-operation-of shutdown-of error-of : ConnectionMessage
+  ping-of ping-ack-of : (cookie : ℕ) → ConnectionMessage
 
 -- Data has a length and its flags: open, close, eof, ackRequired
 pub data SessionMessage : Type 0 where
@@ -14,16 +19,16 @@ pub data SessionMessage : Type 0 where
 
 -- a message of the connection as a whole, or one of a session's with its number
 pub data Scope : Type 0 where
-  whole : Scope
+  whole : ConnectionMessage → Scope
   of-session : ℕ → SessionMessage → Scope
 
 -- an increment counts by its effective amount
 abbrev pub scope : Message → Scope
-scope (msg.NoOperation n) = whole
-scope (msg.Shutdown n) = whole
-scope (msg.Ping k) = whole
-scope (msg.PingAck k) = whole
-scope (msg.Error n) = whole
+scope (msg.NoOperation n) = whole no-operation-of
+scope (msg.Shutdown n) = whole shutdown-of
+scope (msg.Ping k) = whole (ping-of k)
+scope (msg.PingAck k) = whole (ping-ack-of k)
+scope (msg.Error n) = whole error-of
 scope (msg.IncrementRation shift i n) = of-session i (increment-of (effectiveIncrement shift n))
 scope (msg.Abort partial i n) = of-session i (abort-of partial)
 scope (msg.Close i) = of-session i close-of

@@ -17,7 +17,7 @@ use Rattle.runs.proofs.Played.{played, server, zeros, queue, receives, 
 -- the input is read as a message that may not come after the calls, and the next entry says the violation
 pub record Breaks (calls : List Call) (input : List ℕ) (m : Message) (n : ℕ) : Type 0 where
   pub is-read : readMessage role.Client input ≡ ok m
-  pub not-allowed : mayCome server (log server queue calls) m (scope m) ≡ false
+  pub not-allowed : mayCome server (log server queue calls) (scope m) ≡ false
   pub adds : log server queue (calls ++ (receives input ∷ [])) ≡ log server queue calls ++ (breaks input n ∷ [])
 
 -- "Jmux", version 1, header number 8; then a client opens 5 with three bytes, which leaves 1,021

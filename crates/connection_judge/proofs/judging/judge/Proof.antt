@@ -1,7 +1,7 @@
 -- `judge` meets its contract: each arm is a type of message, of the connection as a whole or of a session.
 use mathlib.Core.Path.{refl}
 use borrow.Author.Needs.{needs}
-use Rattle.protocol.specs.Message.{whole}
+use Rattle.protocol.specs.Message.{no-operation-of, shutdown-of, error-of, ping-of, ping-ack-of, whole}
 use Rattle.connection_judge.proofs.Judgments.{no-operation, shut-down, told-error, pinged, by-scope, by-parts}
 use Rattle.connection_judge.proofs.judging.judge.Statement.{statement}
 use Rattle.connection_judge.proofs.judging.judge.Tie as tie
@@ -10,31 +10,31 @@ returns : tie.Need-returns
 returns c =
     let told = c .before in
     let a = told .before .before .args in
-    by-scope (a .c) (a .m) whole (told .enum-told .given .1) refl (no-operation (a .c) (told .enum-told .given .1) (c .taken .ensures))
+    by-scope (a .c) (a .m) (whole no-operation-of) (told .enum-told .given .1) refl (no-operation (a .c) (a .m) (c .taken .ensures))
 
 returns-2 : tie.Need-returns-2
 returns-2 c =
     let told = c .before in
     let a = told .before .before .args in
-    by-scope (a .c) (a .m) whole (told .enum-told2 .given .1) refl (shut-down (a .c) (told .enum-told2 .given .1) refl (c .judge-end .ensures))
+    by-scope (a .c) (a .m) (whole shutdown-of) (told .enum-told2 .given .1) refl (shut-down (a .c) (a .m) refl (c .judge-end .ensures))
 
 returns-3 : tie.Need-returns-3
 returns-3 c =
     let told = c .before .before in
     let a = told .before .before .args in
-    by-scope (a .c) (a .m) whole (told .m .given .1) refl (rw (told .m .given .1) (pinged (a .c) _ (c .taken2 .ensures)))
+    by-scope (a .c) (a .m) (whole (ping-of _)) (told .m .given .1) refl (rw (told .m .given .1) (pinged (a .c) _ (told .m .given .0 .0) (c .taken2 .ensures)))
 
 returns-4 : tie.Need-returns-4
 returns-4 c =
     let told = c .before .before in
     let a = told .before .before .args in
-    by-scope (a .c) (a .m) whole (told .m2 .given .1) refl (rw (told .m2 .given .1) (c .judge-ping-ack .ensures))
+    by-scope (a .c) (a .m) (whole (ping-ack-of _)) (told .m2 .given .1) refl (rw (told .m2 .given .1) (c .judge-ping-ack .ensures))
 
 returns-5 : tie.Need-returns-5
 returns-5 c =
     let told = c .before in
     let a = told .before .before .args in
-    by-scope (a .c) (a .m) whole (told .enum-told3 .given .1) refl (told-error (a .c) (told .enum-told3 .given .1) refl (c .judge-end2 .ensures))
+    by-scope (a .c) (a .m) (whole error-of) (told .enum-told3 .given .1) refl (told-error (a .c) (a .m) refl (c .judge-end2 .ensures))
 
 returns-6 : tie.Need-returns-6
 returns-6 c =
