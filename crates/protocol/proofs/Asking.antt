@@ -9,6 +9,7 @@ use lib.ListN.{length, take}
 use lib.Seq.{length-take-le}
 use lib.Dec.{eqb, ltb, leb}
 use borrow.Author.Tests.{ltb-true, ltb-false, le-leb, lt-leb}
+use Rattle.laws.specs.Pick.{pick}
 use Rattle.laws.proofs.Tests.{not-true, not-false, or-first, or-second}
 use Rattle.ration.specs.declared.Ration.{Ration}
 use Rattle.ration.specs.declared.Ration.the-variants as ration
@@ -26,7 +27,7 @@ use Rattle.protocol.specs.Plan.{check}
 use Rattle.protocol.specs.Session.{queued, finishing}
 use Rattle.protocol.specs.Ask.{silently, openOf, openAsk, sends, putAsk, finishAsk, mayGrant, grantAsk, abortOf, abortAsk, closeOf, closeAsk}
 use Rattle.protocol.specs.Connection.{placed}
-use Rattle.protocol.specs.Observed.{ifSo, Sending, mayOpen}
+use Rattle.protocol.specs.Observed.{Sending, mayOpen}
 use Rattle.protocol.specs.Asked.{isUnsent, mayAskOpen, openNumber, mayPut, putNumber, sendsOn, mayGrantTo, isAmount, hasRoom, mayAskGrant, grantNumber, mayAbort, mayAskAbort, abortNumber, mayCloseAt, mayAskClose, closeNumber}
 use Rattle.protocol.proofs.Plans.{Exactly}
 use Rattle.protocol.proofs.Views.{endsOf, sendsOf, look}
@@ -43,7 +44,7 @@ module _ (far : Ration) (x : Session) (s : List ℕ) where
   -- ---- open
 
   pub open-exact : (r : Role) → Exactly (mayAskOpen r (look far x s)) (openNumber r) (openAsk r x)
-  unfolding openAsk
+  unfolding openAsk pick
   open-exact role.Server = ((λ e. (refl, refl)), λ e. absurd (true≢false e))
   open-exact role.Client = ((λ e. absurd (false≢true e)), λ e. go (x .sides))
     where
@@ -78,17 +79,17 @@ module _ (far : Ration) (x : Session) (s : List ℕ) where
       lt-leb (length (take (x .waiting) s) + n) slotSize (omega arith)
 
   pub put-exact : (n : ℕ) → x .waiting ≤ length s → x .waiting ≤ slotSize → Exactly (mayPut (look far x s .sends) n) (putNumber (look far x s .sends)) (putAsk x n)
-  unfolding putAsk
+  unfolding putAsk pick
   put-exact n h k = go (x .sides)
     where
       asked : Bool
       asked = leb (length (take (x .waiting) s) + n) slotSize
 
-      number : (b : Bool) → x .finish ≡ b → ifSo (not b) 6 5 ≡ ifSo (not (x .finish)) 6 5
-      number b e = sym (ap (λ (c : Bool). ifSo (not c) 6 5) e)
+      number : (b : Bool) → x .finish ≡ b → pick {A = ℕ} (not b) 6 5 ≡ pick (not (x .finish)) 6 5
+      number b e = sym (ap (λ (c : Bool). pick {A = ℕ} (not c) 6 5) e)
 
-      sending-exact : (x .finish ≡ true → ((not (x .finish) && asked) ≡ false) × (5 ≡ ifSo (not (x .finish)) 6 5))
-          × (x .finish ≡ false → (ltb (slotSize - x .waiting) n ≡ true → ((not (x .finish) && asked) ≡ false) × (6 ≡ ifSo (not (x .finish)) 6 5)) × (ltb (slotSize - x .waiting) n ≡ false → (not (x .finish) && asked) ≡ true))
+      sending-exact : (x .finish ≡ true → ((not (x .finish) && asked) ≡ false) × (5 ≡ pick {A = ℕ} (not (x .finish)) 6 5))
+          × (x .finish ≡ false → (ltb (slotSize - x .waiting) n ≡ true → ((not (x .finish) && asked) ≡ false) × (6 ≡ pick {A = ℕ} (not (x .finish)) 6 5)) × (ltb (slotSize - x .waiting) n ≡ false → (not (x .finish) && asked) ≡ true))
       sending-exact = (
         (λ e. (both-are false asked (ap not e) refl, number true e)),
         λ e. ((λ q. (both-are true false (ap not e) (no-room n h q), number false e)), λ q. both-are true true (ap not e) (has-room n h k q)),
@@ -131,7 +132,7 @@ module _ (far : Ration) (x : Session) (s : List ℕ) where
       both-are true true (ap not (or-first (eqb n 0) (ltb 65_535 n) e)) (le-leb n 65_535 (ltb-false 65_535 n (or-second (eqb n 0) (ltb 65_535 n) e)))
 
   pub grant-exact : (n : ℕ) → Exactly (mayAskGrant (look far x s) n) (grantNumber (look far x s) n) (grantAsk x n)
-  unfolding grantAsk
+  unfolding grantAsk pick
   grant-exact n = (
     (λ e. let z = same (x .sides) ∙ not-true (mayGrant (x .sides)) e in (both-are false rest z refl, number z refl)),
     λ e. (
@@ -147,7 +148,7 @@ module _ (far : Ration) (x : Session) (s : List ℕ) where
       rest = isAmount n && hasRoom (x .inbound) n
 
       -- the number, where the two tests come out so
-      number : {a b : Bool} → mayGrantTo (endsOf (x .sides)) ≡ a → isAmount n ≡ b → ifSo a (ifSo b 7 12) 5 ≡ grantNumber (look far x s) n
+      number : {a b : Bool} → mayGrantTo (endsOf (x .sides)) ≡ a → isAmount n ≡ b → pick a (pick b 7 12) 5 ≡ grantNumber (look far x s) n
       number p q = sym (rw (p, q))
 
       same : (z : Sides) → mayGrantTo (endsOf z) ≡ mayGrant z
@@ -169,7 +170,7 @@ module _ (far : Ration) (x : Session) (s : List ℕ) where
   -- ---- abort and close
 
   pub abort-exact : (r : Role) (partial : Bool) → Exactly (mayAskAbort r (look far x s) partial) (abortNumber r partial) (abortAsk r x partial)
-  unfolding abortAsk
+  unfolding abortAsk pick
   abort-exact r partial = by-role r partial
     where
       go : (b : Bool) (z : Sides) → Exactly (mayAbort (sendsAt z) (endsOf z)) 5 (abortOf x b z)
@@ -191,7 +192,7 @@ module _ (far : Ration) (x : Session) (s : List ℕ) where
       by-role role.Server false = ((λ e. absurd (false≢true e)), λ e. go false (x .sides))
 
   pub close-exact : (r : Role) → placed r true (x .sides) ≡ true → Exactly (mayAskClose r (look far x s)) (closeNumber r) (closeAsk r x)
-  unfolding closeAsk
+  unfolding closeAsk pick
   close-exact role.Client p = ((λ e. (refl, refl)), λ e. absurd (true≢false e))
   close-exact role.Server p = ((λ e. absurd (false≢true e)), λ e. go (x .sides) p)
     where

@@ -5,6 +5,7 @@ use mathlib.Core.Bool.{Bool, true, false, not, _&&_, true≢false, false≢true}
 use mathlib.Core.List.{List}
 use Prim.Native.Nat.{ℕ}
 use lib.ListN.{take}
+use Rattle.laws.specs.Pick.{pick}
 use Rattle.laws.proofs.Tests.{not-false, not-true}
 use Rattle.ration.specs.declared.Ration.{Ration}
 use Rattle.ration.specs.Ration.{inRange, allows, plus}
@@ -22,7 +23,7 @@ use Rattle.protocol.specs.Session.{afterData, follow, settled}
 use Rattle.protocol.specs.Receipt.{dataTo, incrementTo, abortTo, closeTo, aborted, arriving, other, acceptable, receipt}
 use Rattle.protocol.specs.Ask.{due, readySession, readyIn, turnOf, turnAsk}
 use Rattle.protocol.specs.Connection.{placed}
-use Rattle.protocol.specs.Observed.{ifSo, wrongOf, wrongNumber, ends, Seen, established, permitsTheirs, mayOpen, mayArrive}
+use Rattle.protocol.specs.Observed.{wrongOf, wrongNumber, ends, Seen, established, permitsTheirs, mayOpen, mayArrive}
 use Rattle.protocol.proofs.Plans.{Exactly}
 use Rattle.protocol.proofs.Views.{endsOf, sendsOf, look}
 use Rattle.protocol.proofs.Receipts.{begins, Possible}
@@ -65,6 +66,7 @@ module _ (r : Role) (own far : Ration) (x : Session) (s : List ℕ) where
   -- a message other than an open Data, to a number with two sides
   arriving-exact : (m : SessionMessage) (o t : Side) → begins m ≡ false
       → Exactly (permitsTheirs (ends o t) (seenAt (sides.Live o t)) m) (wrongOf (ends o t) m) (arriving r x m o (follow t m))
+  unfolding pick
   arriving-exact (data-of n true close eof ack) o t b = absurd (true≢false b)
   arriving-exact (data-of n false close eof ack) o side.Open b = data-exact n close eof ack o
   arriving-exact (data-of n false close eof ack) o side.Finished b = (refl, refl)
@@ -84,6 +86,7 @@ module _ (r : Role) (own far : Ration) (x : Session) (s : List ℕ) where
 
   -- nothing may be sent for a number whose far side is ended, or that was never used
   ended-exact : (m : SessionMessage) (o : Side) (v : Seen) → begins m ≡ false → (permitsTheirs (ends o side.Ended) v m ≡ false) × (25 ≡ wrongOf (ends o side.Ended) m)
+  unfolding pick
   ended-exact (data-of n true close eof ack) o v b = absurd (true≢false b)
   ended-exact (data-of n false close eof ack) o v b = (refl, refl)
   ended-exact (increment-of n) o v b = (refl, refl)
@@ -109,19 +112,20 @@ acceptable-is (sides.Live side.Ended side.Ended) p = refl
 
 -- two checks in a row, the first with 25, the second with 26
 twice : (t c a b : Bool) → c ≡ a → t ≡ (c && b)
-    → (not a ≡ true → (t ≡ false) × (25 ≡ ifSo c 26 25)) × (not a ≡ false → (not b ≡ true → (t ≡ false) × (26 ≡ ifSo c 26 25)) × (not b ≡ false → t ≡ true))
+    → (not a ≡ true → (t ≡ false) × (25 ≡ pick {A = ℕ} c 26 25)) × (not a ≡ false → (not b ≡ true → (t ≡ false) × (26 ≡ pick {A = ℕ} c 26 25)) × (not b ≡ false → t ≡ true))
+unfolding pick
 twice t c a b q e = (first, second)
   where
     with-c : (d : Bool) → a ≡ d → c ≡ d
     with-c d h = q ∙ h
 
-    first : not a ≡ true → (t ≡ false) × (25 ≡ ifSo c 26 25)
-    first h = let z = with-c false (not-true a h) in (e ∙ ap (λ (d : Bool). d && b) z, sym (ap (λ (d : Bool). ifSo d 26 25) z))
+    first : not a ≡ true → (t ≡ false) × (25 ≡ pick {A = ℕ} c 26 25)
+    first h = let z = with-c false (not-true a h) in (e ∙ ap (λ (d : Bool). d && b) z, sym (ap (λ (d : Bool). pick {A = ℕ} d 26 25) z))
 
-    second : not a ≡ false → (not b ≡ true → (t ≡ false) × (26 ≡ ifSo c 26 25)) × (not b ≡ false → t ≡ true)
+    second : not a ≡ false → (not b ≡ true → (t ≡ false) × (26 ≡ pick {A = ℕ} c 26 25)) × (not b ≡ false → t ≡ true)
     second h =
         let z = with-c true (not-false a h) in
-        ((λ k. (e ∙ ap (λ (d : Bool). d && b) z ∙ not-true b k, sym (ap (λ (d : Bool). ifSo d 26 25) z))), λ k. e ∙ ap (λ (d : Bool). d && b) z ∙ not-false b k)
+        ((λ k. (e ∙ ap (λ (d : Bool). d && b) z ∙ not-true b k, sym (ap (λ (d : Bool). pick {A = ℕ} d 26 25) z))), λ k. e ∙ ap (λ (d : Bool). d && b) z ∙ not-false b k)
 
 -- a message is taken exactly where 002 lets the far end send it now
 pub receipt-exact : (r : Role) (own far : Ration) (x : Session) (s : List ℕ) (m : SessionMessage) → placed r true (x .sides) ≡ true → Possible r m

@@ -2,8 +2,8 @@
 use mathlib.Core.Path.{_≡_, refl, sym, ap, _∙_}
 use mathlib.Core.Bool.{Bool, false, not, _&&_}
 use Prim.Native.Nat.{ℕ}
+use Rattle.laws.specs.Pick.{pick}
 use Rattle.protocol.specs.Plan.{Plan, stop, check, take, andThen}
-use Rattle.protocol.specs.Observed.{ifSo}
 use Rattle.protocol.proofs.Plans.{Takes, Exactly, Stops}
 
 -- one check more, after all the others
@@ -28,9 +28,10 @@ then-lastly f b n (check c k p) = ap (check c k) (then-lastly f b n p)
 then-lastly f b n (take a) = refl
 
 -- where the rule takes exactly by t, and refuses with w else: with the last check by t and not b, and refuses with n where t holds
-pub exact-lastly : {A : Type 0} (b : Bool) (n : ℕ) (t : Bool) (w : ℕ) (p : Plan A) → Exactly t w p → Exactly (t && not b) (ifSo t n w) (lastly b n p)
-exact-lastly b n t w (stop k) h = (ap (λ (z : Bool). z && not b) (h .0), h .1 ∙ sym (ap (λ (z : Bool). ifSo z n w) (h .0)))
+pub exact-lastly : {A : Type 0} (b : Bool) (n : ℕ) (t : Bool) (w : ℕ) (p : Plan A) → Exactly t w p → Exactly (t && not b) (pick t n w) (lastly b n p)
+unfolding pick
+exact-lastly b n t w (stop k) h = (ap (λ (z : Bool). z && not b) (h .0), h .1 ∙ sym (ap (λ (z : Bool). pick z n w) (h .0)))
 exact-lastly b n t w (check c k p) h =
-    ((λ e. let q = h .0 e in (ap (λ (z : Bool). z && not b) (q .0), q .1 ∙ sym (ap (λ (z : Bool). ifSo z n w) (q .0)))), λ e. exact-lastly b n t w p (h .1 e))
+    ((λ e. let q = h .0 e in (ap (λ (z : Bool). z && not b) (q .0), q .1 ∙ sym (ap (λ (z : Bool). pick z n w) (q .0)))), λ e. exact-lastly b n t w p (h .1 e))
 exact-lastly b n t w (take a) h =
-    ((λ e. (ap (λ (z : Bool). z && not b) h ∙ ap not e, sym (ap (λ (z : Bool). ifSo z n w) h))), λ e. ap (λ (z : Bool). z && not b) h ∙ ap not e)
+    ((λ e. (ap (λ (z : Bool). z && not b) h ∙ ap not e, sym (ap (λ (z : Bool). pick z n w) h))), λ e. ap (λ (z : Bool). z && not b) h ∙ ap not e)

@@ -4,12 +4,13 @@ use Prim.Native.Nat.{ℕ, _+_}
 use mathlib.Core.Bool.{Bool, false, not, _&&_, _||_}
 use lib.ListN.{length}
 use lib.Dec.{eqb, leb}
+use Rattle.laws.specs.Pick.{pick}
 use Rattle.ration.specs.declared.Ration.{Ration}
 use Rattle.ration.specs.declared.Ration.the-variants as ration
 use Rattle.wire.specs.declared.Role.{Role}
 use Rattle.wire.specs.Message.{isClient, isServer, onlyIf}
 use Rattle.protocol.specs.Slot.{slotSize}
-use Rattle.protocol.specs.Observed.{ifSo, Sending, silent, sending, Ends, unused, ends, Seen, established, unfinished, finished, mayOpen}
+use Rattle.protocol.specs.Observed.{Sending, silent, sending, Ends, unused, ends, Seen, established, unfinished, finished, mayOpen}
 
 abbrev pub isUnsent : Sending → Bool
 isUnsent silent = false
@@ -20,7 +21,7 @@ abbrev pub mayAskOpen : Role → Seen → Bool
 mayAskOpen r v = isClient r && (mayOpen r (v .standing) && not (isUnsent (v .sends)))
 
 abbrev pub openNumber : Role → ℕ
-openNumber r = ifSo (isClient r) 5 4
+openNumber r = pick (isClient r) 5 4
 
 -- finish: a session that sends, no finish asked (else 5)
 abbrev pub sendsOn : Sending → Bool
@@ -36,7 +37,7 @@ mayPut silent n = false
 mayPut (sending unsent waiting r finish) n = not finish && leb (length waiting + n) slotSize
 
 abbrev pub putNumber : Sending → ℕ
-putNumber v = ifSo (sendsOn v) 6 5
+putNumber v = pick (sendsOn v) 6 5
 
 -- grant: our end open or finished, theirs open (else 5)
 abbrev pub mayGrantTo : Ends → Bool
@@ -55,7 +56,7 @@ abbrev pub mayAskGrant : Seen → ℕ → Bool
 mayAskGrant v n = mayGrantTo (v .standing) && (isAmount n && hasRoom (v .inbound) n)
 
 abbrev pub grantNumber : Seen → ℕ → ℕ
-grantNumber v n = ifSo (mayGrantTo (v .standing)) (ifSo (isAmount n) 7 12) 5
+grantNumber v n = pick (mayGrantTo (v .standing)) (pick (isAmount n) 7 12) 5
 
 -- abort: an open that is unsent; our end open; or finished, with theirs not ended (else 5). Partial is for servers (else 4)
 abbrev pub mayAbort : Sending → Ends → Bool
@@ -66,7 +67,7 @@ abbrev pub mayAskAbort : Role → Seen → Bool → Bool
 mayAskAbort r v partial = onlyIf partial (isServer r) && mayAbort (v .sends) (v .standing)
 
 abbrev pub abortNumber : Role → Bool → ℕ
-abortNumber r partial = ifSo (onlyIf partial (isServer r)) 5 4
+abortNumber r partial = pick (onlyIf partial (isServer r)) 5 4
 
 -- close: a server (else 4) whose end is finished (else 5)
 abbrev pub mayCloseAt : Ends → Bool
@@ -77,4 +78,4 @@ abbrev pub mayAskClose : Role → Seen → Bool
 mayAskClose r v = isServer r && mayCloseAt (v .standing)
 
 abbrev pub closeNumber : Role → ℕ
-closeNumber r = ifSo (isServer r) 5 4
+closeNumber r = pick (isServer r) 5 4

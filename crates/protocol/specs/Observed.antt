@@ -337,20 +337,16 @@ mayArrive r own v acknowledgment-of = permitsTheirs (v .standing) v acknowledgme
 
 -- ---- why a message may not arrive: it is wrong where the session stands (25), above the ration (26), or past the largest (27)
 
-abbrev pub ifSo : Bool → ℕ → ℕ → ℕ
-ifSo true n m = n
-ifSo false n m = m
-
 abbrev pub wrongOf : Ends → SessionMessage → ℕ
 wrongOf unused m = 25
-wrongOf (ends o t) (data-of n begins close eof ack) = ifSo (unfinished t) 26 25
-wrongOf (ends o t) (increment-of n) = ifSo (established t) 27 25
+wrongOf (ends o t) (data-of n begins close eof ack) = pick (unfinished t) 26 25
+wrongOf (ends o t) (increment-of n) = pick (established t) 27 25
 wrongOf (ends o t) (abort-of partial) = 25
 wrongOf (ends o t) close-of = 25
 wrongOf (ends o t) acknowledgment-of = 25
 
 abbrev pub wrongNumber : Role → Ends → SessionMessage → ℕ
-wrongNumber r st (data-of n true close eof ack) = ifSo (isServer r && mayOpen r st) 26 25
+wrongNumber r st (data-of n true close eof ack) = pick (isServer r && mayOpen r st) 26 25
 wrongNumber r st (data-of n false close eof ack) = wrongOf st (data-of n false close eof ack)
 wrongNumber r st (increment-of n) = wrongOf st (increment-of n)
 wrongNumber r st (abort-of partial) = wrongOf st (abort-of partial)
