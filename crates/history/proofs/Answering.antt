@@ -28,8 +28,9 @@ use Rattle.protocol.specs.Observed.{greeted}
 use Rattle.protocol.proofs.Plans.{passes, Exactly, exact-takes, exact-stops, takes-all}
 use Rattle.protocol.proofs.Views.{greetingOf, greeted-is, pingingOf}
 use Rattle.protocol.proofs.Asking.{open-exact, put-exact, finish-exact, grant-exact, abort-exact, close-exact}
-use Rattle.history.specs.Log.{Call, start, open-session, put, finish, turn, grant, abort, close, shutdown, lost, receive, State, Entry, decide, outBy, out, made, Proper}
+use Rattle.history.specs.Log.{Call, start, open-session, put, finish, turn, grant, abort, close, shutdown, lost, receive, State, Entry, out, made, Proper}
 use Rattle.history.specs.Log as log
+use Rattle.history.proofs.Decisions.{decide, outBy, out-is}
 use Rattle.laws.specs.Runs.{fold}
 use Rattle.history.specs.Account.{Line, lineAfter, Account, askedOf, accountAfter, blankAccount, observed}
 use Rattle.history.specs.Meant.{ungreeted}
@@ -286,11 +287,11 @@ module _ (setup : Setup) (hh : Proper setup) (queue : List ℕ) where
 
   asked-calls : (ks : List Call) (k : Call) → isLocal k ≡ true
       → out (log.run setup queue ks) k .answer ≡ localAnswer setup (length queue) (observed setup (askedOf k) (log.log setup queue ks)) k
-  unfolding out
   asked-calls ks k l =
       let s = log.run setup queue ks in
       let o = run-made setup hh queue ks in
-      answered s (own-ok setup s o) (ok-formed setup s o) k l
+      ap (λ (x : Entry). x .answer) (out-is s k)
+      ∙ answered s (own-ok setup s o) (ok-formed setup s o) k l
       ∙ ap (λ (z : Setup). localAnswer z (length (s .queue)) (accountOf s (askedOf k)) k) (same-setup setup s o)
       ∙ ap (λ (n : ℕ). localAnswer setup n (accountOf s (askedOf k)) k) (run-long setup (made setup queue) ks (made-ok setup hh queue))
       ∙ told-calls ks k
@@ -304,15 +305,15 @@ module _ (setup : Setup) (hh : Proper setup) (queue : List ℕ) where
 
   gated-calls : (ks : List Call) (k : Call)
       → out (log.run setup queue ks) k .answer ≡ gateAnswer setup (length queue) (observed setup 0 (log.log setup queue ks) .line) k (out (log.run setup queue ks) k .answer)
-  unfolding out
   gated-calls ks k =
       let s = log.run setup queue ks in
       let o = run-made setup hh queue ks in
       let x = outBy s k (decide (s .connection) (s .queue) k) .answer in
-      gates s (ok-formed setup s o) k
+      rw out-is
+      (gates s (ok-formed setup s o) k
       ∙ ap (λ (z : Setup). gateAnswer z (length (s .queue)) (lineOf (s .connection)) k x) (same-setup setup s o)
       ∙ ap (λ (n : ℕ). gateAnswer setup n (lineOf (s .connection)) k x) (run-long setup (made setup queue) ks (made-ok setup hh queue))
-      ∙ ap (λ (l : Line). gateAnswer setup (length queue) l k x) (sym (line-is 0 ks))
+      ∙ ap (λ (l : Line). gateAnswer setup (length queue) l k x) (sym (line-is 0 ks)))
 
   pub gates-exactly : (calls : List Call) → GatesExactly setup (length queue) (log.log setup queue calls)
   unfolding out

@@ -23,8 +23,9 @@ use Rattle.protocol.proofs.Views.{start-told, endsOf, sendsOf, Formed}
 use Rattle.protocol.proofs.Legal.{AllLegal}
 use Rattle.protocol.proofs.Ledgers.{OutFair, InFair}
 use Rattle.protocol.proofs.Streams.{Flows, Fair, fair-all, seen-all}
-use Rattle.history.specs.Log.{Call, State, decide, nextBy, outBy, next, out, made, Proper}
+use Rattle.history.specs.Log.{Call, State, next, out, made, Proper}
 use Rattle.history.specs.Log as log
+use Rattle.history.proofs.Decisions.{decide, nextBy, outBy, next-is, out-is}
 use Rattle.history.specs.Account.{Line, lineAfter, Account, events, accountAfter, farOf}
 use Rattle.history.specs.Sums.{Sum, blankSum, sumAfter, summed}
 use Rattle.history.proofs.Good.{Ok, Good, setupOf, lineOf, holds, ownOf, farBy}
@@ -118,13 +119,13 @@ module _ (setup : Setup) (n : ℕ) (h : n < 128) where
   fair-next : (s : State) (k : Call) → Ok setup s → (t : Totals) → t .seen ≡ holds s n → Fair (ownOf setup) (farStart (s .connection)) t
       → Fair (ownOf setup) (farStart (next s k .connection))
       (fold (addUp (ownOf setup) (farStart (s .connection)) (drop 4 (out s k .wrote))) t (events (setup .role) n (out s k)))
-  unfolding next out
   fair-next s k o t q f =
       let d = decide (s .connection) (s .queue) k in
-      subst (λ (z : Setup). Fair (ownOf z) (farStart (nextBy s k d .connection)) (fold (addUp (ownOf z) (farStart (s .connection)) (drop 4 (outBy s k d .wrote))) t (events (z .role) n (outBy s k d))))
+      rw (next-is, out-is)
+      (subst (λ (z : Setup). Fair (ownOf z) (farStart (nextBy s k d .connection)) (fold (addUp (ownOf z) (farStart (s .connection)) (drop 4 (outBy s k d .wrote))) t (events (z .role) n (outBy s k d))))
       (same-setup setup s o)
       (fair-by s (own-ok setup s o) k n h d (decide-good s (own-ok setup s o) k) t q
-      (subst (λ (z : Setup). Fair (ownOf z) (farStart (s .connection)) t) (sym (same-setup setup s o)) f))
+      (subst (λ (z : Setup). Fair (ownOf z) (farStart (s .connection)) t) (sym (same-setup setup s o)) f)))
 
   tracks-next : (s : State) (k : Call) (z : Sum) → Ok setup s → Tracks setup n s z → Tracks setup n (next s k) (sumAfter setup n z (out s k))
   unfolding sumAfter accountAfter

@@ -24,15 +24,16 @@ use Rattle.protocol.specs.Call.{nextReady}
 use Rattle.protocol.specs.Result.{bytesOfAll}
 use Rattle.protocol.specs.Observed.{greeted, Sending, isReady, dueBy}
 use Rattle.protocol.proofs.Views.{greeted-is, ready-look}
-use Rattle.history.specs.Log.{Call, turn, State, Entry, decide, payloadOf, nextBy, outBy, next, out, made, Proper}
+use Rattle.history.specs.Log.{Call, turn, State, Entry, next, out, made, Proper}
 use Rattle.history.specs.Log as log
+use Rattle.history.proofs.Decisions.{decide, payloadOf, nextBy, outBy, next-is, out-is}
 use Rattle.history.specs.Account.{Line, Account, observed}
 use Rattle.history.specs.Claims.{ready, dataNumber, dataWritten, isTurn, lastServed, waitingBytes, Serves, MayTurn, NothingReady, Turns, BoundedWaiting}
 use Rattle.history.proofs.Good.{Ok, setupOf, lineOf, holds, one}
 use Rattle.history.proofs.Receives.{GoodBy}
 use Rattle.history.proofs.Simulation.{observed-is, run-made, made-ok, own-ok, same-setup, decide-good, next-ok, queue-refused, queue-violated}
 use Rattle.history.proofs.Fair.{nothing-data, error-data, ready-is, waits-log, own-log}
-use Rattle.history.proofs.Entries.{At, entry-at, called}
+use Rattle.history.proofs.Entries.{At, entry-at, call-told}
 use Rattle.history.proofs.Never.{never-14}
 use Rattle.history.proofs.Turning.{Clear, Way, early, none, taken, way, due-bytes, waiting-look, turn-bytes, last-run}
 
@@ -54,27 +55,26 @@ module _ (s : State) (k : Call) where
 module _ (setup : Setup) where
   -- only a turn writes a data message
   quiet-out : (s : State) (k : Call) → Ok setup s → isTurn k ≡ false → dataWritten setup (out s k) ≡ []
-  unfolding out
   quiet-out s k o h =
-      subst (λ (z : Setup). dataWritten z (outBy s k (decide (s .connection) (s .queue) k)) ≡ []) (same-setup setup s o)
-      (quiet-by s k (decide (s .connection) (s .queue) k) (decide-good s (own-ok setup s o) k) h)
+      rw out-is
+      (subst (λ (z : Setup). dataWritten z (outBy s k (decide (s .connection) (s .queue) k)) ≡ []) (same-setup setup s o)
+      (quiet-by s k (decide (s .connection) (s .queue) k) (decide-good s (own-ok setup s o) k) h))
 
   -- a turn that is taken writes that of the number served
   turn-out : (s : State) (room : List ℕ) → Ok setup s → (n : ℕ) (t : Taken)
       → decide (s .connection) (s .queue) (turn room) ≡ accept (setting-session (s .connection) n n (served n) t) → dataWritten setup (out s (turn room)) ≡ n ∷ []
-  unfolding out
   turn-out s room o n t e =
       let g : GoodBy s (turn room) (accept (setting-session (s .connection) n n (served n) t)) =
       subst (λ (d : Decision). GoodBy s (turn room) d) e (decide-good s (own-ok setup s o) (turn room)) in
-      ap (λ (d : Decision). dataWritten setup (outBy s (turn room) d)) e
+      ap (dataWritten setup) (out-is s (turn room)) ∙ ap (λ (d : Decision). dataWritten setup (outBy s (turn room) d)) e
       ∙ ap (λ (z : Setup). dataWritten z (outBy s (turn room) (accept (setting-session (s .connection) n n (served n) t)))) (sym (same-setup setup s o)) ∙ g .by-turn
 
   -- the queue keeps its length
   pub run-long : (s : State) (ks : List Call) → Ok setup s → length (run next out s ks .queue) ≡ length (s .queue)
-  unfolding run next
+  unfolding run
   run-long s [] o = refl
   run-long s (k ∷ ks) o =
-      run-long (next s k) ks (next-ok setup s k o) ∙ long-by s k (decide (s .connection) (s .queue) k) (decide-good s (own-ok setup s o) k)
+      run-long (next s k) ks (next-ok setup s k o) ∙ ap (λ (z : State). length (z .queue)) (next-is s k) ∙ long-by s k (decide (s .connection) (s .queue) k) (decide-good s (own-ok setup s o) k)
 
 -- ---- of one turn, after any calls
 
@@ -110,13 +110,15 @@ module _ (setup : Setup) (hh : Proper setup) (queue : List ℕ) (ks : List Call)
 
   answers : (d : Decision) → decide (log.run setup queue ks .connection) (log.run setup queue ks .queue) (turn room) ≡ d
       → out (log.run setup queue ks) (turn room) .answer ≡ outBy (log.run setup queue ks) (turn room) d .answer
-  unfolding out
-  answers d e = ap (λ (z : Decision). outBy (log.run setup queue ks) (turn room) z .answer) e
+  answers d e =
+      ap (λ (x : Entry). x .answer) (out-is (log.run setup queue ks) (turn room))
+      ∙ ap (λ (z : Decision). outBy (log.run setup queue ks) (turn room) z .answer) e
 
   written : (d : Decision) → decide (log.run setup queue ks .connection) (log.run setup queue ks .queue) (turn room) ≡ d
       → out (log.run setup queue ks) (turn room) .wrote ≡ outBy (log.run setup queue ks) (turn room) d .wrote
-  unfolding out
-  written d e = ap (λ (z : Decision). outBy (log.run setup queue ks) (turn room) z .wrote) e
+  written d e =
+      ap (λ (x : Entry). x .wrote) (out-is (log.run setup queue ks) (turn room))
+      ∙ ap (λ (z : Decision). outBy (log.run setup queue ks) (turn room) z .wrote) e
 
   serves-first : ask.readySession (at (log.run setup queue ks .connection) (nextReady (log.run setup queue ks .connection))) ≡ true → (t : Taken)
       → t .sent ≡ dueBy (holds (log.run setup queue ks) (nextReady (log.run setup queue ks .connection)) .sends) ∷ []
@@ -204,7 +206,7 @@ module _ (setup : Setup) (hh : Proper setup) (queue : List ℕ) where
   turns-log : (a : List Entry) (e : Entry) (room : List ℕ) → At setup queue a e → e .call ≡ turn room → Turns setup (length queue) a e (length room)
   turns-log a e room x h =
       let s = log.run setup queue (x .before) in
-      let k : x .call ≡ turn room = sym (called s (x .call)) ∙ ap (λ (z : Entry). z .call) (x .entry) ∙ h in
+      let k : x .call ≡ turn room = sym (call-told s (x .call)) ∙ ap (λ (z : Entry). z .call) (x .entry) ∙ h in
       let same : out (log.run setup queue (x .before)) (turn room) ≡ e = ap (out s) (sym k) ∙ x .entry in
       subst (λ (l : List Entry). Turns setup (length queue) l e (length room)) (x .log-before)
       (subst (λ (z : Entry). Turns setup (length queue) (log.log setup queue (x .before)) z (length room)) same
@@ -213,7 +215,7 @@ module _ (setup : Setup) (hh : Proper setup) (queue : List ℕ) where
   quiet-log : (a : List Entry) (e : Entry) → At setup queue a e → isTurn (e .call) ≡ false → dataWritten setup e ≡ []
   quiet-log a e x h =
       let s = log.run setup queue (x .before) in
-      let k : isTurn (x .call) ≡ false = ap isTurn (sym (called s (x .call)) ∙ ap (λ (z : Entry). z .call) (x .entry)) ∙ h in
+      let k : isTurn (x .call) ≡ false = ap isTurn (sym (call-told s (x .call)) ∙ ap (λ (z : Entry). z .call) (x .entry)) ∙ h in
       ap (dataWritten setup) (sym (x .entry)) ∙ quiet-out setup s (x .call) (run-made setup hh queue (x .before)) k
 
   never-log : (a : List Entry) (e : Entry) → At setup queue a e → e .answer ≡ refused 14 → ⊥

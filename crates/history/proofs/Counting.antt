@@ -30,8 +30,9 @@ use Rattle.protocol.proofs.Views.{start-told, endsOf, sendsOf, look}
 use Rattle.protocol.proofs.Legal.{Writes, AllLegal}
 use Rattle.protocol.proofs.Ledgers.{OutFair, InFair, out-covers, in-covers, open-covers}
 use Rattle.protocol.proofs.Streams.{Flows, Fair, eof-flows}
-use Rattle.history.specs.Log.{Call, State, Entry, decide, payloadOf, outBy, out, Proper}
+use Rattle.history.specs.Log.{Call, State, Entry, out, Proper}
 use Rattle.history.specs.Log as log
+use Rattle.history.proofs.Decisions.{decide, payloadOf, outBy, out-is}
 use Rattle.history.specs.Account.{Account, only, events, reported, reportedOf, farOf, observed, writtenMessage}
 use Rattle.history.specs.Sums.{Sum, blankSum, sumAfter, summed}
 use Rattle.history.specs.Claims.{dataNumber, isTurn, lateOf, RationLedger, PutStream}
@@ -199,9 +200,10 @@ module _ (setup : Setup) (hh : Proper setup) (queue : List ℕ) (n : ℕ) (h : n
     flows-whole : (b close ack : Bool) (size : ℕ) → readMessage (setup .role) (out (log.run setup queue ks) k .wrote) ≡ ok (msg.Data b close true ack n size)
         → sumAfter setup n (summed setup n (log.log setup queue ks)) (out (log.run setup queue ks) k) .totals .payloads
         ≡ sumAfter setup n (summed setup n (log.log setup queue ks)) (out (log.run setup queue ks) k) .totals .put
-    unfolding sumAfter out fold
-    flows-whole b close ack size q =
-        let s = log.run setup queue ks in
+    unfolding sumAfter fold
+    flows-whole b close ack size =
+        rw out-is
+        (λ q. let s = log.run setup queue ks in
         let z = summed setup n (log.log setup queue ks) in
         let d = decide (s .connection) (s .queue) k in
         let p = drop 4 (outBy s k d .wrote) in
@@ -209,7 +211,7 @@ module _ (setup : Setup) (hh : Proper setup) (queue : List ℕ) (n : ℕ) (h : n
         let add : Totals → Event → Totals = addUp (ownOf setup) (farOf (z .line)) p in
         ap (λ (es : List Event). fold add (z .totals) es .payloads) (w .0)
         ∙ eof-flows (setup .role) (ownOf setup) (farStart (s .connection)) p size b close ack (holds s n .sends) (z .totals .put) (z .totals .payloads) (w .1 .bears) flows-here
-        ∙ sym (ap (λ (es : List Event). fold add (z .totals) es .put) (w .0))
+        ∙ sym (ap (λ (es : List Event). fold add (z .totals) es .put) (w .0)))
 
   -- the facts about one entry
   record Counted (a : List Entry) (e : Entry) : Type 0 where
@@ -222,7 +224,6 @@ module _ (setup : Setup) (hh : Proper setup) (queue : List ℕ) (n : ℕ) (h : n
         → sumAfter setup n (summed setup n a) e .totals .payloads ≡ sumAfter setup n (summed setup n a) e .totals .put
 
   counted-calls : (ks : List Call) (k : Call) → Counted (log.log setup queue ks) (out (log.run setup queue ks) k)
-  unfolding out
   counted-calls ks k =
       let s = log.run setup queue ks in
       let z = summed setup n (log.log setup queue ks) in
@@ -232,11 +233,11 @@ module _ (setup : Setup) (hh : Proper setup) (queue : List ℕ) (n : ℕ) (h : n
       record {
         written =
             λ b close eof ack size q. subst (λ (r : Ration). Covers r (z .totals .sending) size) (sym (ap farOf (line-is ks k) ∙ start-told (s .connection .stage)))
-            (out-covers (setup .role) (ownOf setup) far p b close eof ack size (v .standing) (v .sends) (v .inbound) (z .totals .sending) (writes-here ks k b close eof ack size q .1) (out-here ks k));
-        begun = λ close eof ack late size q. open-covers (setup .role) (ownOf setup) far p close eof ack size v (takes-here ks k true close eof ack late size q);
+            (out-covers (setup .role) (ownOf setup) far p b close eof ack size (v .standing) (v .sends) (v .inbound) (z .totals .sending) (writes-here ks k b close eof ack size (rw out-is at q) .1) (out-here ks k));
+        begun = λ close eof ack late size q. open-covers (setup .role) (ownOf setup) far p close eof ack size v (takes-here ks k true close eof ack late size (rw out-is at q));
         taken =
             λ close eof ack late size q l. in-covers (setup .role) (ownOf setup) far p close eof ack size (v .standing) (v .sends) (v .inbound) (z .totals .receiving)
-            (takes-here ks k false close eof ack late size q) (sym (ap (λ (y : Seen). lateFor (y .standing) (data-of size false close eof ack)) (stands-as ks k)) ∙ l) (in-here ks k);
+            (takes-here ks k false close eof ack late size (rw out-is at q)) (sym (ap (λ (y : Seen). lateFor (y .standing) (data-of size false close eof ack)) (stands-as ks k)) ∙ l) (in-here ks k);
         whole = flows-whole ks k;
       }
 

@@ -25,8 +25,9 @@ use Rattle.protocol.specs.Connection.{otherEnd, Cause, at, roleOf, ownStart, fa
 use Rattle.protocol.specs.Judge.{Report, done, served, message, Ending, goes-on, ends, Effect, Decision, refuse, violate, accept, setting-session, continued, breach, judgeWhole, judgeScope, judge}
 use Rattle.protocol.specs.Call.{nextReady, headerTaken, messageTaken, reading, receiveGate, startRule, openRule, putRule, finishRule, turnRule, grantRule, abortRule, closeRule, pingRule, shutdownRule, lostRule, receiveRule}
 use Rattle.protocol.proofs.Plans.{settled, stops-all, Takes, takes-then, takes-all}
-use Rattle.history.specs.Log.{Call, start, open-session, put, finish, turn, grant, abort, close, shutdown, lost, receive, State, decide, queueAfter, nextBy, next}
+use Rattle.history.specs.Log.{Call, start, open-session, put, finish, turn, grant, abort, close, shutdown, lost, receive, State}
 use Rattle.history.specs.Log as log
+use Rattle.history.proofs.Decisions.{decide, queueAfter, nextBy, next-is}
 use Rattle.history.specs.Claims.{OnlyOver, OverLeaves}
 use Rattle.history.proofs.Simulation.{base, queue-violated}
 use Rattle.history.proofs.Leaves.{only-over}
@@ -175,5 +176,4 @@ module _ (s : State) (k : Call) (live : s .connection .over ≡ false) where
   by-decision (accept e) h o = by-ending e h (e .ending) refl o
 
 pub over-leaves : (s : State) (k : Call) → OverLeaves s k
-unfolding next
-over-leaves s k live o = by-decision s k live (decide (s .connection) (s .queue) k) refl o
+over-leaves s k live o = rw next-is (by-decision s k live (decide (s .connection) (s .queue) k) refl (rw next-is at o))

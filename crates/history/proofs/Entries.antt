@@ -38,6 +38,6 @@ module _ (setup : Setup) (queue : List ℕ) where
       subst (λ (l : List Entry). P l e) (x .log-before) (subst (P (log.log setup queue (x .before))) (x .entry) (f (x .before) (x .call)))
 
 -- an entry tells its call
-pub called : (s : State) (k : Call) → out s k .call ≡ k
+pub call-told : (s : State) (k : Call) → out s k .call ≡ k
 unfolding out
-called s k = refl
+call-told s k = refl

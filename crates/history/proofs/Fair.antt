@@ -23,8 +23,9 @@ use Rattle.protocol.specs.Judge.{Output, Ending, goes-on, ends, Effect, Decisio
 use Rattle.protocol.specs.Result.{bytesOfAll}
 use Rattle.protocol.specs.Observed.{isReady, anyLapse, Seen, observe}
 use Rattle.protocol.proofs.Views.{look}
-use Rattle.history.specs.Log.{Call, State, Entry, decide, payloadOf, nextBy, outBy, next, out, made, Proper}
+use Rattle.history.specs.Log.{Call, State, Entry, next, out, made, Proper}
 use Rattle.history.specs.Log as log
+use Rattle.history.proofs.Decisions.{decide, payloadOf, nextBy, outBy, next-is, out-is}
 use Rattle.history.specs.Account.{Account, events}
 use Rattle.history.specs.Claims.{ready, dataNumber, dataWritten, has, isOver, lapse, waitsOn, Waits}
 use Rattle.history.proofs.Good.{Ok, setupOf, ownOf, holds, readyAt}
@@ -99,17 +100,16 @@ quiet-other s e n q p = true-false (own-has n) (sym (ap (has n) p) ∙ quiet-dat
 
 module _ (setup : Setup) where
   pub scheduler : Scheduler next out (dataWritten setup) (waitsOn setup) (Ok setup) (λ s. s .connection .last) readyAt
-  unfolding next out
   scheduler =
       record {
         keeps = next-ok setup;
         bound = λ s o. o .last;
         moves =
-            λ s k o. subst (λ (z : Setup). Move (readyAt s) (s .connection .last) (nextBy s k (decide (s .connection) (s .queue) k) .connection .last) (dataWritten z (outBy s k (decide (s .connection) (s .queue) k))))
-            (same-setup setup s o) (moves-by s (own-ok setup s o) k (decide (s .connection) (s .queue) k) (decide-good s (own-ok setup s o) k));
+            λ s k o. rw (next-is, out-is) (subst (λ (z : Setup). Move (readyAt s) (s .connection .last) (nextBy s k (decide (s .connection) (s .queue) k) .connection .last) (dataWritten z (outBy s k (decide (s .connection) (s .queue) k))))
+            (same-setup setup s o) (moves-by s (own-ok setup s o) k (decide (s .connection) (s .queue) k) (decide-good s (own-ok setup s o) k)));
         stays =
-            λ s k n o h r q. stays-by s (own-ok setup s o) k (decide (s .connection) (s .queue) k) (decide-good s (own-ok setup s o) k) n h r
-            (subst (λ (z : Setup). waitsOn z n (outBy s k (decide (s .connection) (s .queue) k)) ≡ true) (sym (same-setup setup s o)) q);
+            λ s k n o h r q. rw next-is (stays-by s (own-ok setup s o) k (decide (s .connection) (s .queue) k) (decide-good s (own-ok setup s o) k) n h r
+            (subst (λ (z : Setup). waitsOn z n (outBy s k (decide (s .connection) (s .queue) k)) ≡ true) (sym (same-setup setup s o)) (rw out-is at q)));
         other = quiet-other setup;
       }
 

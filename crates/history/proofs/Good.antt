@@ -25,7 +25,8 @@ use Rattle.protocol.specs.Asked.{isUnsent}
 use Rattle.protocol.specs.Fate.{fateOf, fateAfter, Ended, not-ended}
 use Rattle.protocol.proofs.Fates.{endedBy}
 use Rattle.protocol.proofs.Legal.{AllLegal}
-use Rattle.history.specs.Log.{Call, State, queueAfter, payloadOf, outBy, Proper}
+use Rattle.history.specs.Log.{Call, State, Proper}
+use Rattle.history.proofs.Decisions.{queueAfter, payloadOf, outBy}
 use Rattle.history.specs.Account.{Line, lineAfter, events, reported, reportedOf, Account}
 use Rattle.history.specs.Fates.{endTold}
 use Rattle.history.specs.Meant.{meantFor, meantOfAll, meantBy, ReadInOrder, mayGo}

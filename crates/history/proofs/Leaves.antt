@@ -18,8 +18,9 @@ use Rattle.protocol.specs.Connection.{Cause, shutdown-received, error-received,
 use Rattle.protocol.specs.Judge.{Report, done, served, header-received, message, Effect, Breach, Decision, refuse, violate, accept, errorAfter}
 use Rattle.laws.specs.Room.{overlaid}
 use Rattle.protocol.specs.Result.{bytesOfAll, extentOf}
-use Rattle.history.specs.Log.{Call, start, open-session, put, finish, turn, grant, abort, close, shutdown, lost, receive, roomOf, State, decide, payloadOf, nextBy, outBy, next, out}
+use Rattle.history.specs.Log.{Call, start, open-session, put, finish, turn, grant, abort, close, shutdown, lost, receive, roomOf, State}
 use Rattle.history.specs.Log as log
+use Rattle.history.proofs.Decisions.{decide, payloadOf, nextBy, outBy, next-is, out-is}
 use Rattle.protocol.proofs.Plans.{settled, stops-all, takes-all}
 use Rattle.history.specs.Claims.{takesInput, SameButOutcome, OnlyOver, errorBytes, RefusedLeaves}
 use Rattle.history.proofs.Simulation.{ended-at, queue-refused, queue-violated}
@@ -155,12 +156,11 @@ module _ (s : State) (k : Call) where
       (let h : 14 < 20 = omega arith in (h, tt))
 
   pub refused-leaves : RefusedLeaves s k
-  unfolding next out
   refused-leaves =
       let h = ruled (wellFormed (s .connection)) refl in
       record {
-        refusal = refusal-by (decide (s .connection) (s .queue) k) (h .0);
-        violated = violated-by (decide (s .connection) (s .queue) k) (h .1);
-        unused = unused-by (decide (s .connection) (s .queue) k);
-        receives = λ n e. violated-receive (s .connection) (s .queue) k (violation-of (decide (s .connection) (s .queue) k) n e);
+        refusal = λ n e. rw (next-is, out-is) (refusal-by (decide (s .connection) (s .queue) k) (h .0) n (rw out-is at e));
+        violated = λ n e. rw (next-is, out-is) (violated-by (decide (s .connection) (s .queue) k) (h .1) n (rw out-is at e));
+        unused = λ e. rw out-is (unused-by (decide (s .connection) (s .queue) k) (rw out-is at e));
+        receives = λ n e. violated-receive (s .connection) (s .queue) k (violation-of (decide (s .connection) (s .queue) k) n (rw out-is at e));
       }

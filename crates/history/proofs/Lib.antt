@@ -1,4 +1,5 @@
 -- The claims over every log, and what they stand on.
+pub mod Decisions
 pub mod Written
 pub mod Good
 pub mod Sessions
@@ -19,7 +20,6 @@ pub mod Taking
 pub mod Speaking
 pub mod Balances
 pub mod Counting
-pub mod Contracts
 pub mod Answering
 pub mod Outcomes
 pub mod Ends

@@ -36,8 +36,9 @@ use Rattle.protocol.specs.Asked.{isUnsent}
 use Rattle.protocol.specs.Fate.{fateOf, fateAfter}
 use Rattle.protocol.proofs.Legal.{AllLegal}
 use Rattle.protocol.proofs.Views.{greetingOf, greeted-is, sendsOf, look, seen-path, Formed}
-use Rattle.history.specs.Log.{Call, start, shutdown, lost, State, queueAfter, outBy}
+use Rattle.history.specs.Log.{Call, start, shutdown, lost, State}
 use Rattle.history.specs.Log as log
+use Rattle.history.proofs.Decisions.{queueAfter, outBy}
 use Rattle.history.specs.Account.{lineAfter, events, reported, reportedOf, writtenMessage, inScope}
 use Rattle.history.specs.Fates.{endTold}
 use Rattle.history.specs.Meant.{ungreeted, meantBy, ReadInOrder, mayGo}

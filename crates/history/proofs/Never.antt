@@ -7,7 +7,8 @@ use Rattle.laws.proofs.Results.{refused-same, refused-not-ok, violation-not-ref
 use Rattle.state.specs.declared.Setup.{Setup}
 use Rattle.protocol.specs.Judge.{Decision, refuse, violate, accept}
 use Rattle.protocol.proofs.Numbers.{isLow}
-use Rattle.history.specs.Log.{Call, State, decide, outBy, out}
+use Rattle.history.specs.Log.{Call, State, out}
+use Rattle.history.proofs.Decisions.{decide, outBy, out-is}
 use Rattle.history.proofs.Good.{Ok}
 use Rattle.history.proofs.Simulation.{ok-formed}
 use Rattle.history.proofs.Rulings.{Ruled, decide-ruled}
@@ -18,5 +19,4 @@ never s k (violate b) f e = violation-not-refused e
 never s k (accept x) f e = refused-not-ok (sym e)
 
 pub never-14 : (setup : Setup) (s : State) (k : Call) → Ok setup s → out s k .answer ≡ refused 14 → ⊥
-unfolding out
-never-14 setup s k o e = never s k (decide (s .connection) (s .queue) k) (decide-ruled (s .connection) (ok-formed setup s o) (s .queue) k) e
+never-14 setup s k o e = never s k (decide (s .connection) (s .queue) k) (decide-ruled (s .connection) (ok-formed setup s o) (s .queue) k) (rw out-is at e)

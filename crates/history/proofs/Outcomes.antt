@@ -14,7 +14,8 @@ use Rattle.protocol.specs.Observed.{Event}
 use Rattle.protocol.specs.Asked.{isUnsent}
 use Rattle.protocol.specs.Fate.{Fate, no-fate, fateOf, fateAfter, Ended, fateEnded}
 use Rattle.protocol.proofs.Fates.{ending-fate}
-use Rattle.history.specs.Log.{Call, State, decide, nextBy, outBy, next, out, made, Proper}
+use Rattle.history.specs.Log.{Call, State, next, out, made, Proper}
+use Rattle.history.proofs.Decisions.{decide, nextBy, outBy, next-is, out-is}
 use Rattle.history.specs.Account.{Account, reported, blankAccount, accountAfter}
 use Rattle.history.specs.Fates.{endTold, fateByEntry, Fated, fatedAfter, fateTold}
 use Rattle.history.specs.Claims.{FatesTold}
@@ -70,8 +71,7 @@ module _ (s : State) (o : Ok (setupOf (s .connection)) s) (k : Call) where
 
 module _ (setup : Setup) (n : ℕ) (h : n < 128) where
   fate-next : (s : State) (k : Call) → Ok setup s → outcomeAt (next s k .connection) n ≡ fateByEntry n (accountOf s n) (outcomeAt (s .connection) n) (out s k)
-  unfolding next out
-  fate-next s k o = fate-by s (own-ok setup s o) k (decide (s .connection) (s .queue) k) (decide-good s (own-ok setup s o) k) n h
+  fate-next s k o = rw (next-is, out-is) (fate-by s (own-ok setup s o) k (decide (s .connection) (s .queue) k) (decide-good s (own-ok setup s o) k) n h)
 
   fate-run : (s : State) (ks : List Call) → Ok setup s → (z : Fated) → z .account ≡ accountOf s n → z .fate ≡ outcomeAt (s .connection) n
       → outcomeAt (run next out s ks .connection) n ≡ fold (fatedAfter setup n) z (logOf next out s ks) .fate

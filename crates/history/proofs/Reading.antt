@@ -30,14 +30,15 @@ use Rattle.protocol.specs.Result.{extentOf}
 use Rattle.protocol.proofs.Plans.{passes, settled, stops-all, takes-all}
 use Rattle.protocol.proofs.Reports.{Tells, judge-tells}
 use Rattle.protocol.proofs.Views.{greetingOf, greeted-is}
-use Rattle.history.specs.Log.{Call, receive, State, Entry, outBy, out, Proper}
+use Rattle.history.specs.Log.{Call, receive, State, Entry, out, Proper}
 use Rattle.history.specs.Log as log
+use Rattle.history.proofs.Decisions.{outBy, out-is}
 use Rattle.history.specs.Account.{Line, Account, observed}
 use Rattle.history.specs.Meant.{headerDue}
 use Rattle.history.specs.Claims.{Listening, Awaiting, headerAnswer, Stands, ReceiveReads}
 use Rattle.history.proofs.Good.{setupOf, lineOf}
 use Rattle.history.proofs.Simulation.{observed-is, run-made, same-setup, ok-formed}
-use Rattle.history.proofs.Entries.{called, of-entries}
+use Rattle.history.proofs.Entries.{call-told, of-entries}
 
 -- ---- what is taken stands in the input
 
@@ -196,10 +197,10 @@ module _ (setup : Setup) (hh : Proper setup) (queue : List ℕ) where
       → unstarted (log.run setup queue ks .connection .stage) ≡ false → 12 ≤ length room
       → out (log.run setup queue ks) (receive input room) .answer
       ≡ outBy (log.run setup queue ks) (receive input room) (reading (log.run setup queue ks .connection) input (log.run setup queue ks .connection .stage)) .answer
-  unfolding out
   passes-gate ks input room live begun roomy =
       let s = log.run setup queue ks in
-      ap (λ (d : Decision). outBy s (receive input room) d .answer)
+      ap (λ (x : Entry). x .answer) (out-is s (receive input room))
+      ∙ ap (λ (d : Decision). outBy s (receive input room) d .answer)
       (gate-passes (s .connection) input (length room) (ok-formed setup s (run-made setup hh queue ks)) (sym (ap (λ (l : Line). l .over) (line-is ks)) ∙ live) begun roomy)
 
   not-given : (ks : List Call) (input room : List ℕ) (h : Result Message) → Listening setup (log.log setup queue ks) (length room)
@@ -212,14 +213,14 @@ module _ (setup : Setup) (hh : Proper setup) (queue : List ℕ) where
       ∙ unread s (receive input room) input h (s .connection .stage) up (ap (λ (r : Role). readMessage (otherEnd r) input) (run-made setup hh queue ks .role) ∙ q)
 
   reads-calls : (ks : List Call) (input room : List ℕ) → Reads setup (log.log setup queue ks) (out (log.run setup queue ks) (receive input room)) input room
-  unfolding out
   reads-calls ks input room =
       let s = log.run setup queue ks in
       let o = run-made setup hh queue ks in
       record {
         taken =
-            stood-taken setup s (receive input room) input (receiveRule (s .connection) input (length room))
-            (subst (λ (z : Setup). Stood z s (receive input room) input (receiveRule (s .connection) input (length room))) (same-setup setup s o) (receive-stands s (receive input room) input (length room)));
+            rw out-is
+            (stood-taken setup s (receive input room) input (receiveRule (s .connection) input (length room))
+            (subst (λ (z : Setup). Stood z s (receive input room) input (receiveRule (s .connection) input (length room))) (same-setup setup s o) (receive-stands s (receive input room) input (length room))));
         headers =
             λ w. let due : headerDue (roleOf (log.run setup queue ks .connection .stage)) (greetingOf (log.run setup queue ks .connection .stage)) ≡ true =
             ap (λ (r : Role). headerDue r (greetingOf (log.run setup queue ks .connection .stage))) (o .role)
@@ -233,7 +234,7 @@ module _ (setup : Setup) (hh : Proper setup) (queue : List ℕ) where
   reads-log calls a c e input room z h =
       of-entries setup queue (λ l x. x .call ≡ receive input room → Reads setup l x input room)
       (λ ks k q. subst (λ (j : Call). Reads setup (log.log setup queue ks) (out (log.run setup queue ks) j) input room)
-      (sym (sym (called (log.run setup queue ks) k) ∙ q)) (reads-calls ks input room)) calls a c e z h
+      (sym (sym (call-told (log.run setup queue ks) k) ∙ q)) (reads-calls ks input room)) calls a c e z h
 
   -- of every role, header number, queue and list of calls
   pub receive-reads : (calls : List Call) → ReceiveReads setup (log.log setup queue calls)

@@ -43,7 +43,8 @@ use Rattle.protocol.proofs.Exact.{receipt-exact}
 use Rattle.protocol.proofs.Fates.{receipt-fate}
 use Rattle.protocol.specs.Asked.{isUnsent}
 use Rattle.protocol.specs.Fate.{not-ended}
-use Rattle.history.specs.Log.{Call, receive, State, outBy}
+use Rattle.history.specs.Log.{Call, receive, State}
+use Rattle.history.proofs.Decisions.{outBy}
 use Rattle.history.specs.Account.{Line, lineByMessage, inScope, sessionIn, writtenMessage}
 use Rattle.history.specs.Fates.{endedByMessage}
 use Rattle.history.specs.Meant.{ungreeted, answeredIn, answerOfAll, isPing, ReadInOrder, mayGo}

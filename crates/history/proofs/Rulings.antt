@@ -23,8 +23,9 @@ use Rattle.protocol.specs.Call.{startRule, openRule, putRule, finishRule, turnR
 use Rattle.protocol.specs.Ask.{openAsk, putAsk, finishAsk, grantAsk, abortAsk, closeAsk, turnAsk}
 use Rattle.protocol.proofs.Plans.{stops, passes, settled, takes-all, Stops, stops-then, stops-map}
 use Rattle.protocol.proofs.Numbers.{isLow, Low, High, open-low, put-low, finish-low, grant-low, abort-low, close-low, turn-low, receipt-high, whole-high}
-use Rattle.history.specs.Log.{Call, start, open-session, put, finish, turn, grant, abort, close, shutdown, lost, receive, decide}
+use Rattle.history.specs.Log.{Call, start, open-session, put, finish, turn, grant, abort, close, shutdown, lost, receive}
 use Rattle.history.specs.Log as log
+use Rattle.history.proofs.Decisions.{decide}
 
 -- a violation counts as a lost line, and is answered with Error
 abbrev pub Ruled : Connection → Decision → Type 0

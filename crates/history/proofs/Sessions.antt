@@ -28,7 +28,8 @@ use Rattle.protocol.specs.Fate.{fateOf, fateAfter}
 use Rattle.protocol.proofs.Views.{greetingOf, greeted-is, start-told, look, Formed}
 use Rattle.protocol.proofs.Sound.{AllLawful, Carries, writes, isData, anyData}
 use Rattle.protocol.proofs.Legal.{Bears, AllLegal}
-use Rattle.history.specs.Log.{Call, State, queueAfter, payloadOf, outBy}
+use Rattle.history.specs.Log.{Call, State}
+use Rattle.history.proofs.Decisions.{queueAfter, payloadOf, outBy}
 use Rattle.history.specs.Account.{events, reported, reportedOf, writtenMessage}
 use Rattle.history.specs.Meant.{meantFor, meantBy, ReadInOrder, messageMayGo, mayGo}
 use Rattle.history.specs.Claims.{dataNumber, dataWritten, has}

@@ -21,8 +21,9 @@ use Rattle.protocol.specs.Connection.{Cause, shutdown-received, error-received,
 use Rattle.protocol.specs.Judge.{Ending, goes-on, ends, Effect, Breach, Decision, refuse, violate, accept, continued}
 use Rattle.protocol.specs.Observed.{observe}
 use Rattle.protocol.proofs.Views.{start-told, look, Formed, formed-is}
-use Rattle.history.specs.Log.{Call, start, open-session, put, finish, turn, grant, abort, close, shutdown, lost, receive, State, decide, queueAfter, nextBy, outBy, next, out, made, Proper}
+use Rattle.history.specs.Log.{Call, start, open-session, put, finish, turn, grant, abort, close, shutdown, lost, receive, State, next, out, made, Proper}
 use Rattle.history.specs.Log as log
+use Rattle.history.proofs.Decisions.{decide, queueAfter, nextBy, outBy, next-is, out-is}
 use Rattle.history.specs.Account.{Account, blankAccount, accountAfter, observed, events}
 use Rattle.history.proofs.Good.{Ok, Good, setupOf, holds, accountOf, ownOf, farBy}
 use Rattle.history.proofs.Steps.{open-good, finish-good, grant-good, abort-good, close-good}
@@ -233,16 +234,17 @@ module _ (setup : Setup) where
   own-ok s o = subst (λ (z : Setup). Ok z s) (sym (same-setup s o)) o
 
   pub next-ok : (s : State) (k : Call) → Ok setup s → Ok setup (next s k)
-  unfolding next
   next-ok s k o =
-      subst (λ (z : Setup). Ok z (nextBy s k (decide (s .connection) (s .queue) k))) (same-setup s o)
-      (by-ok s (own-ok s o) k (decide (s .connection) (s .queue) k) (decide-good s (own-ok s o) k))
+      rw next-is
+      (subst (λ (z : Setup). Ok z (nextBy s k (decide (s .connection) (s .queue) k))) (same-setup s o)
+      (by-ok s (own-ok s o) k (decide (s .connection) (s .queue) k) (decide-good s (own-ok s o) k)))
 
   pub next-account : (s : State) (k : Call) → Ok setup s → (n : ℕ) → n < 128 → accountOf (next s k) n ≡ accountAfter setup n (accountOf s n) (out s k)
-  unfolding next out
   next-account s k o n h =
-      by-account s (own-ok s o) k (decide (s .connection) (s .queue) k) (decide-good s (own-ok s o) k) n h
+      ap (λ (z : State). accountOf z n) (next-is s k)
+      ∙ by-account s (own-ok s o) k (decide (s .connection) (s .queue) k) (decide-good s (own-ok s o) k) n h
       ∙ ap (λ (z : Setup). accountAfter z n (accountOf s n) (outBy s k (decide (s .connection) (s .queue) k))) (same-setup s o)
+      ∙ ap (accountAfter setup n (accountOf s n)) (sym (out-is s k))
 
   -- ---- every list of calls
 

@@ -19,8 +19,9 @@ use Rattle.protocol.specs.Connection.{roleOf}
 use Rattle.protocol.specs.Judge.{Output, header-out, sent, Breach, Decision, refuse, violate, accept, errorAfter}
 use Rattle.protocol.specs.Result.{bytesOfAll}
 use Rattle.protocol.proofs.Views.{greetingOf}
-use Rattle.history.specs.Log.{Call, State, Entry, decide, payloadOf, outBy, out, Proper}
+use Rattle.history.specs.Log.{Call, State, Entry, out, Proper}
 use Rattle.history.specs.Log as log
+use Rattle.history.proofs.Decisions.{decide, payloadOf, outBy, out-is}
 use Rattle.history.specs.Account.{Account, concerned}
 use Rattle.history.specs.Meant.{ungreeted, meantBy, ReadInOrder, mayGo}
 use Rattle.history.specs.Claims.{Fitting, accountBefore, ReadsBack, SendsAllowed}
@@ -105,15 +106,15 @@ module _ (s : State) (o : Ok (setupOf (s .connection)) s) (k : Call) where
 module _ (setup : Setup) (hh : Proper setup) (queue : List ℕ) where
   speaks-calls : (ks : List Call) (k : Call)
       → Speaks setup (accountBefore setup (log.log setup queue ks) (out (log.run setup queue ks) k)) (out (log.run setup queue ks) k)
-  unfolding out
   speaks-calls ks k =
       let s = log.run setup queue ks in
       let o = run-made setup hh queue ks in
       let own = own-ok setup s o in
       let d = decide (s .connection) (s .queue) k in
       let g = decide-good s own k in
-      subst (λ (a : Account). Speaks setup a (outBy s k d)) (sym (observed-is setup hh queue ks (concerned k (outBy s k d .answer)) (number-in s own k d g)))
-      (subst (λ (z : Setup). Speaks z (accountOf s (concerned k (outBy s k d .answer))) (outBy s k d)) (same-setup setup s o) (speaks-by s own k d g))
+      rw out-is
+      (subst (λ (a : Account). Speaks setup a (outBy s k d)) (sym (observed-is setup hh queue ks (concerned k (outBy s k d .answer)) (number-in s own k d g)))
+      (subst (λ (z : Setup). Speaks z (accountOf s (concerned k (outBy s k d .answer))) (outBy s k d)) (same-setup setup s o) (speaks-by s own k d g)))
 
   -- of every role, header number, queue and list of calls
   pub reads-back : (calls : List Call) → ReadsBack setup (log.log setup queue calls)

@@ -31,15 +31,16 @@ use Rattle.protocol.proofs.Views.{pingingOf, greeted-is, awaits-is}
 use Rattle.protocol.proofs.Late.{receipt-late}
 use Rattle.protocol.proofs.Reports.{whole-reports}
 use Rattle.protocol.proofs.Exact.{receipt-exact}
-use Rattle.history.specs.Log.{Call, receive, State, Entry, outBy, out, Proper}
+use Rattle.history.specs.Log.{Call, receive, State, Entry, out, Proper}
 use Rattle.history.specs.Log as log
+use Rattle.history.proofs.Decisions.{outBy, out-is}
 use Rattle.history.specs.Account.{Line, Account, observed}
 use Rattle.history.specs.Claims.{Listening, wholeMayArrive, mayCome, lateOf, wrongFor, TakesExactly}
 use Rattle.history.proofs.Good.{Ok, lineOf, holds}
 use Rattle.history.proofs.Steps.{formed-up}
 use Rattle.history.proofs.Receives.{scope-number, possible}
 use Rattle.history.proofs.Simulation.{observed-is, run-made, own-ok, ok-formed}
-use Rattle.history.proofs.Entries.{At, entry-at, called, of-entries}
+use Rattle.history.proofs.Entries.{At, entry-at, call-told, of-entries}
 use Rattle.history.proofs.Reading.{up-started, gate-passes, heard-past, receive-heard, receive-reads}
 
 -- ---- a receive that no earlier check refuses judges its message
@@ -141,7 +142,7 @@ module _ (setup : Setup) (hh : Proper setup) (queue : List ℕ) where
   judged-calls : (ks : List Call) (input room : List ℕ) (m : Message) → Listening setup (log.log setup queue ks) (length room) → readMessage (otherEnd (setup .role)) input ≡ ok m
       → (mayCome setup (log.log setup queue ks) (scope m) ≡ true → out (log.run setup queue ks) (receive input room) .answer ≡ ok (message m (lateOf setup (log.log setup queue ks) (scope m))))
       × (mayCome setup (log.log setup queue ks) (scope m) ≡ false → out (log.run setup queue ks) (receive input room) .answer ≡ violation (wrongFor setup (log.log setup queue ks) (scope m)))
-  unfolding out judge
+  unfolding judge
   judged-calls ks input room m l q =
       let s = log.run setup queue ks in
       let o = run-made setup hh queue ks in
@@ -154,7 +155,7 @@ module _ (setup : Setup) (hh : Proper setup) (queue : List ℕ) where
       let j = by-scope s (receive input room) m setup o up w (scope m) refl in
       let number : (i : ℕ) (x : SessionMessage) → scope m ≡ of-session i x → i < 128 = λ i x e. subst (λ (n : ℕ). n < 128) (scope-number m i x e) (w .session) in
       let t = may-is ks (scope m) number in
-      let same = ap (λ (z : Decision). outBy s (receive input room) z .answer) d in
+      let same = ap (λ (x : Entry). x .answer) (out-is s (receive input room)) ∙ ap (λ (z : Decision). outBy s (receive input room) z .answer) d in
       ((λ e. same ∙ j .0 (t ∙ e) ∙ ap (λ (b : Bool). ok (message m b)) (late-is ks (scope m) number)), λ e. same ∙ j .1 (t ∙ e) ∙ ap violation (wrong-is ks (scope m) number))
 
   Both : List Entry → Entry → Message → Type 0
@@ -167,7 +168,7 @@ module _ (setup : Setup) (hh : Proper setup) (queue : List ℕ) where
   unfolding Both
   judged-log a e input room m x h l q =
       let s = log.run setup queue (x .before) in
-      let k : x .call ≡ receive input room = sym (called s (x .call)) ∙ ap (λ (z : Entry). z .call) (x .entry) ∙ h in
+      let k : x .call ≡ receive input room = sym (call-told s (x .call)) ∙ ap (λ (z : Entry). z .call) (x .entry) ∙ h in
       let same : out (log.run setup queue (x .before)) (receive input room) ≡ e = ap (out s) (sym k) ∙ x .entry in
       subst (λ (y : List Entry). Both y e m) (x .log-before)
       (subst (λ (z : Entry). Both (log.log setup queue (x .before)) z m) same
@@ -176,11 +177,10 @@ module _ (setup : Setup) (hh : Proper setup) (queue : List ℕ) where
   -- a message that is taken is listened for
   listens-calls : (ks : List Call) (input room : List ℕ) (m : Message) (late : Bool) → out (log.run setup queue ks) (receive input room) .answer ≡ ok (message m late)
       → Listening setup (log.log setup queue ks) (length room)
-  unfolding out
   listens-calls ks input room m late q =
       let s = log.run setup queue ks in
       let p =
-      heard-past s (receive input room) (length room) (receiveRule (s .connection) input (length room)) (receive-heard (s .connection) input (length room)) m late q in
+      heard-past s (receive input room) (length room) (receiveRule (s .connection) input (length room)) (receive-heard (s .connection) input (length room)) m late (rw out-is at q) in
       record {
         not-over = ap (λ (l : Line). l .over) (line-is ks) ∙ p .0;
         up = ap (λ (l : Line). greeted (l .greeting)) (line-is ks) ∙ greeted-is (s .connection .stage) ∙ p .1;
@@ -192,7 +192,7 @@ module _ (setup : Setup) (hh : Proper setup) (queue : List ℕ) where
   listens-log calls a c e input room m late z h q =
       of-entries setup queue (λ l x. x .call ≡ receive input room → x .answer ≡ ok (message m late) → Listening setup l (length room))
       (λ ks k p r. listens-calls ks input room m late
-      (sym (ap (λ (j : Call). out (log.run setup queue ks) j .answer) (sym (called (log.run setup queue ks) k) ∙ p)) ∙ r)) calls a c e z h q
+      (sym (ap (λ (j : Call). out (log.run setup queue ks) j .answer) (sym (call-told (log.run setup queue ks) k) ∙ p)) ∙ r)) calls a c e z h q
 
   same-late : {x y : Bool} {m : Message} → message m x ≡ message m y → x ≡ y
   same-late e = cc

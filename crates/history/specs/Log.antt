@@ -2,17 +2,14 @@
 use Prim.Native.Nat.{ℕ, _<_}
 use mathlib.Core.Bool.{Bool}
 use mathlib.Core.List.{List, []}
-use lib.ListN.{length}
+use lib.ListN.{take}
 use Rattle.laws.specs.Result.{Result}
 use Rattle.laws.specs.Runs
 use Rattle.state.specs.declared.Connection.{Connection}
 use Rattle.state.specs.declared.Setup.{Setup}
 use Rattle.state.specs.New.{fresh}
-use Rattle.protocol.specs.Connection.{at}
-use Rattle.protocol.specs.Judge.{Report, Decision}
-use Rattle.protocol.specs.Queue.{slot, withSlot, putSlot}
-use Rattle.protocol.specs.Call.{startRule, openRule, putRule, finishRule, turnRule, grantRule, abortRule, closeRule, pingRule, shutdownRule, lostRule, receiveRule}
-use Rattle.protocol.specs.Result.{Given, given, decided, ifTaken, turned, turnPayload, writtenBy}
+use Rattle.protocol.specs.Judge.{Report}
+use Rattle.protocol.specs.Result.{Given, startCall, openCall, putCall, finishCall, turnCall, grantCall, abortCall, closeCall, pingCall, shutdownCall, lostCall, receiveCall}
 
 -- a call with its arguments; `room` is the room that it is lent, `input` the bytes that arrive
 pub data Call : Type 0 where
@@ -29,50 +26,6 @@ pub data Call : Type 0 where
   lost : Call
   receive : (input room : List ℕ) → Call
 
-abbrev pub decide : Connection → List ℕ → Call → Decision
-decide c q (start room) = decided (startRule c (length room))
-decide c q (open-session n) = decided (openRule c n)
-decide c q (put n bytes) = decided (putRule c n (length bytes) (length q))
-decide c q (finish n) = decided (finishRule c n)
-decide c q (turn room) = decided (turnRule c (length q) (length room))
-decide c q (grant n amount room) = decided (grantRule c n amount (length room))
-decide c q (abort n partial room) = decided (abortRule c n partial (length room))
-decide c q (close n room) = decided (closeRule c n (length room))
-decide c q (ping cookie room) = decided (pingRule c cookie (length room))
-decide c q (shutdown room) = decided (shutdownRule c (length room))
-decide c q lost = decided (lostRule c)
-decide c q (receive input room) = receiveRule c input (length room)
-
--- the bytes that follow a Data header: only a turn has some
-abbrev pub payloadOf : List ℕ → Call → Decision → List ℕ
-payloadOf q (start room) d = []
-payloadOf q (open-session n) d = []
-payloadOf q (put n bytes) d = []
-payloadOf q (finish n) d = []
-payloadOf q (turn room) d = turnPayload q d
-payloadOf q (grant n amount room) d = []
-payloadOf q (abort n partial room) d = []
-payloadOf q (close n room) d = []
-payloadOf q (ping cookie room) d = []
-payloadOf q (shutdown room) d = []
-payloadOf q lost d = []
-payloadOf q (receive input room) d = []
-
--- only put and turn touch the queue
-abbrev pub queueAfter : Connection → List ℕ → Call → Decision → List ℕ
-queueAfter c q (start room) d = q
-queueAfter c q (open-session n) d = q
-queueAfter c q (put n bytes) d = ifTaken d (λ e. withSlot n (putSlot (at c n .waiting) bytes (slot n q)) q) q
-queueAfter c q (finish n) d = q
-queueAfter c q (turn room) d = ifTaken d (turned c q) q
-queueAfter c q (grant n amount room) d = q
-queueAfter c q (abort n partial room) d = q
-queueAfter c q (close n room) d = q
-queueAfter c q (ping cookie room) d = q
-queueAfter c q (shutdown room) d = q
-queueAfter c q lost d = q
-queueAfter c q (receive input room) d = q
-
 -- the room that a call is lent
 abbrev pub roomOf : Call → List ℕ
 roomOf (start room) = room
@@ -88,11 +41,26 @@ roomOf (shutdown room) = room
 roomOf lost = []
 roomOf (receive input room) = room
 
--- ---- runs
+-- ---- one call
 
 pub record State : Type 0 where
   pub connection : Connection
   pub queue : List ℕ
+
+-- what a call gives, and the queue and the room after it: the definitions that the contracts of the calls cite
+abbrev pub called : State → Call → Given × List ℕ × List ℕ
+called s (start room) = let g = startCall (s .connection) room in (g .0, s .queue, g .1)
+called s (open-session n) = (openCall (s .connection) n, s .queue, [])
+called s (put n bytes) = let g = putCall (s .connection) n bytes (s .queue) in (g .0, g .1, [])
+called s (finish n) = (finishCall (s .connection) n, s .queue, [])
+called s (turn room) = turnCall (s .connection) (s .queue) room
+called s (grant n amount room) = let g = grantCall (s .connection) n amount room in (g .0, s .queue, g .1)
+called s (abort n partial room) = let g = abortCall (s .connection) n partial room in (g .0, s .queue, g .1)
+called s (close n room) = let g = closeCall (s .connection) n room in (g .0, s .queue, g .1)
+called s (ping cookie room) = let g = pingCall (s .connection) cookie room in (g .0, s .queue, g .1)
+called s (shutdown room) = let g = shutdownCall (s .connection) room in (g .0, s .queue, g .1)
+called s lost = (lostCall (s .connection), s .queue, [])
+called s (receive input room) = let g = receiveCall (s .connection) input room in (g .0, s .queue, g .1)
 
 -- an entry of the log: the call, its answer, how many bytes of its input it used and where in them the payload stands, the bytes
 -- that it wrote
@@ -104,29 +72,24 @@ pub record Entry : Type 0 where
   pub end : ℕ
   pub wrote : List ℕ
 
-abbrev pub gives : State → Call → Decision → Given
-gives s k d = given (s .connection) (payloadOf (s .queue) k d) d
-
-abbrev pub nextBy : State → Call → Decision → State
-nextBy s k d = record { connection = gives s k d .connection; queue = queueAfter (s .connection) (s .queue) k d }
-
-abbrev pub outBy : State → Call → Decision → Entry
-outBy s k d =
-    record {
-      call = k;
-      answer = gives s k d .answer;
-      used = gives s k d .used;
-      start = gives s k d .start;
-      end = gives s k d .end;
-      wrote = writtenBy (payloadOf (s .queue) k d) d;
-    }
-
 -- each call gets what the last one left
 unfoldable pub next : State → Call → State
-next s k = nextBy s k (decide (s .connection) (s .queue) k)
+next s k = let g = called s k in record { connection = g .0 .connection; queue = g .1 }
 
+-- what a call wrote stands at the front of its room
 unfoldable pub out : State → Call → Entry
-out s k = outBy s k (decide (s .connection) (s .queue) k)
+out s k =
+    let g = called s k in
+    record {
+      call = k;
+      answer = g .0 .answer;
+      used = g .0 .used;
+      start = g .0 .start;
+      end = g .0 .end;
+      wrote = take (g .0 .wrote) (g .2);
+    }
+
+-- ---- runs
 
 -- what the code can hold: a header number of 16 bits
 abbrev pub Proper : Setup → Type 0

@@ -39,7 +39,8 @@ use Rattle.protocol.specs.Result.{bytesOfAll}
 use Rattle.protocol.proofs.Plans.{passes}
 use Rattle.protocol.proofs.Views.{formed-is}
 use Rattle.protocol.proofs.Slots.{turn-length, with-length}
-use Rattle.history.specs.Log.{Call, open-session, turn, State, Entry, decide, nextBy, outBy, next, out}
+use Rattle.history.specs.Log.{Call, open-session, turn, State, Entry, next, out}
+use Rattle.history.proofs.Decisions.{decide, nextBy, outBy, next-is, out-is}
 use Rattle.runs.proofs.Played.{taken}
 
 -- ---- lists
@@ -147,12 +148,11 @@ module _ (own far : ℕ) (xs : List Session) (last : ℕ) (queue : List ℕ) (j 
       ∙ ap (λ (x : Session). settle refuse accept (andThen (setting-session (connected own far xs last) j last done) (openAsk role.Client x))) e
 
   open-next : next (state own far xs last queue) (open-session j) ≡ state own far (set xs j unsent) last queue
-  unfolding next
-  open-next = ap (nextBy (state own far xs last queue) (open-session j)) open-decided
+  open-next = next-is (state own far xs last queue) (open-session j) ∙ ap (nextBy (state own far xs last queue) (open-session j)) open-decided
 
   open-out : out (state own far xs last queue) (open-session j) ≡ taken (open-session j) done []
-  unfolding out bytesOfAll
-  open-out = ap (outBy (state own far xs last queue) (open-session j)) open-decided
+  unfolding bytesOfAll
+  open-out = out-is (state own far xs last queue) (open-session j) ∙ ap (outBy (state own far xs last queue) (open-session j)) open-decided
 
 -- ---- a turn serves the unsent number after the mark, and leaves it begun
 
@@ -184,14 +184,14 @@ module _ (own far : ℕ) (xs : List Session) (last : ℕ) (queue : List ℕ) (i 
       ∙ ap (λ (p : Plan Taken). settle refuse accept (andThen f p)) (turn-begins (fromHeader own) (fromHeader far))
 
   turn-next : next (state own far xs last queue) (turn room) ≡ state own far (set xs i (begun (fromHeader own) (fromHeader far))) i (emptied i queue)
-  unfolding next
   turn-next =
-      ap (nextBy (state own far xs last queue) (turn room)) turn-decided
+      next-is (state own far xs last queue) (turn room)
+      ∙ ap (nextBy (state own far xs last queue) (turn room)) turn-decided
       ∙ ap (λ (x : Session). state own far (set xs i (begun (fromHeader own) (fromHeader far))) i (withSlot i (turnSlot (x .waiting) (x .waiting - 0) (slot i queue)) queue)) e
 
   turn-out : out (state own far xs last queue) (turn room) ≡ served-entry room i
-  unfolding out bytesOfAll
-  turn-out = ap (outBy (state own far xs last queue) (turn room)) turn-decided
+  unfolding bytesOfAll
+  turn-out = out-is (state own far xs last queue) (turn room) ∙ ap (outBy (state own far xs last queue) (turn room)) turn-decided
 
 -- ---- k opens from j on, and k turns from i on
 

@@ -27,10 +27,11 @@ use Rattle.state.specs.New.{blank}
 use Rattle.protocol.specs.Connection.{wellFormed, allFormed, sessionFormed}
 use Rattle.protocol.specs.Judge.{done, header-received}
 use Rattle.protocol.specs.Call.{startRule, receiveRule, headerTaken}
-use Rattle.protocol.specs.Result.{bytesOfAll}
+use Rattle.protocol.specs.Result.{bytesOfAll, startCall}
 use Rattle.protocol.specs.Observed.{isReady}
 use Rattle.protocol.proofs.Views.{look}
-use Rattle.history.specs.Log.{Call, turn, State, Entry, decide, nextBy, outBy, next, out, made, log}
+use Rattle.history.specs.Log.{Call, turn, State, Entry, next, out, made, log}
+use Rattle.history.proofs.Decisions.{decide, nextBy, outBy, next-is, out-is}
 use Rattle.history.specs.Claims.{ready, dataNumber, dataWritten, waitsOn}
 use Rattle.history.proofs.Good.{readyAt}
 use Rattle.history.proofs.Written.{numbered-read}
@@ -58,11 +59,11 @@ module _ (own far : ℕ) (hf : far < 65_536) (queue : List ℕ) where
   started = record { connection = waits-for-header own; queue = queue }
 
   start-next : next (made (client-of own) queue) starts ≡ started
-  unfolding next startRule settle wellFormed allFormed sessionFormed
+  unfolding next startCall startRule settle wellFormed allFormed sessionFormed
   start-next = refl
 
   start-out : out (made (client-of own) queue) starts ≡ taken starts done (connectionHeader own)
-  unfolding out startRule settle wellFormed allFormed sessionFormed bytesOfAll
+  unfolding out startCall startRule settle wellFormed allFormed sessionFormed bytesOfAll
   start-out = refl
 
   header-decided : decide (waits-for-header own) queue (receives (connectionHeader far)) ≡ headerTaken (waits-for-header own) role.Client (ok far)
@@ -70,12 +71,11 @@ module _ (own far : ℕ) (hf : far < 65_536) (queue : List ℕ) where
   header-decided = ap (headerTaken (waits-for-header own) role.Client) (header-read-written far [] hf)
 
   header-next : next started (receives (connectionHeader far)) ≡ state own far (runs unsent blank 0 128) 127 queue
-  unfolding next
-  header-next = ap (nextBy started (receives (connectionHeader far))) header-decided
+  header-next = next-is started (receives (connectionHeader far)) ∙ ap (nextBy started (receives (connectionHeader far))) header-decided
 
   header-out : out started (receives (connectionHeader far)) ≡ greets (connectionHeader far) (header-received far) []
-  unfolding out bytesOfAll
-  header-out = ap (outBy started (receives (connectionHeader far))) header-decided
+  unfolding bytesOfAll
+  header-out = out-is started (receives (connectionHeader far)) ∙ ap (outBy started (receives (connectionHeader far))) header-decided
 
   exchange-run : run next out (made (client-of own) queue) (exchange far) ≡ state own far (runs unsent blank 0 128) 127 queue
   unfolding run

@@ -20,17 +20,18 @@ use Rattle.protocol.specs.Ask as ask
 use Rattle.protocol.specs.Ask.{openAsk, putAsk, finishAsk, grantAsk, abortAsk, closeAsk, turnAsk}
 use Rattle.protocol.specs.Judge.{Report, judge}
 use Rattle.protocol.specs.Call.{startRule, openRule, putRule, finishRule, turnRule, grantRule, abortRule, closeRule, pingRule, shutdownRule, lostRule, receiveRule}
-use Rattle.protocol.specs.Result.{bytesOfAll}
+use Rattle.protocol.specs.Result.{bytesOfAll, startCall, openCall, putCall, finishCall, turnCall, grantCall, abortCall, closeCall, pingCall, shutdownCall, lostCall, receiveCall}
 use Rattle.history.specs.Log.{Call, start, turn, receive, Entry, next, out, log}
 use Rattle.history.specs.Account.{accountAfter, observed}
 use Rattle.history.specs.Sums.{sumAfter, summed}
 use Rattle.history.specs.Fates.{fatedAfter, fateTold}
 
--- whoever unfolds this unfolds the rules, the reader and what a log tells
+-- whoever unfolds this unfolds the calls, their rules, the reader and what a log tells
 unfoldable pub played : Setup → List ℕ → List Call → List Entry
 unfolding run logOf fold Every gather pick following firstAfter nearest fromHeader kindOf readMessage parseHeader typed allowed effectiveIncrement
     readConnectionHeader parseConnectionHeader settle wellFormed allFormed sessionFormed receipt ask.readySession openAsk putAsk finishAsk grantAsk abortAsk closeAsk turnAsk
-    judge startRule openRule putRule finishRule turnRule grantRule abortRule closeRule pingRule shutdownRule lostRule receiveRule bytesOfAll next out accountAfter observed
+    judge startRule openRule putRule finishRule turnRule grantRule abortRule closeRule pingRule shutdownRule lostRule receiveRule bytesOfAll
+    startCall openCall putCall finishCall turnCall grantCall abortCall closeCall pingCall shutdownCall lostCall receiveCall next out accountAfter observed
     sumAfter summed fatedAfter fateTold
 played setup queue calls = log setup queue calls
 
