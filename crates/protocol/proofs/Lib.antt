@@ -6,6 +6,7 @@ pub mod Asking
 pub mod Sends
 pub mod Sound
 pub mod Slots
+pub mod Sizes
 pub mod Asks
 pub mod Turns
 pub mod Receipts
