@@ -6,6 +6,7 @@ pub mod Session
 pub mod Receipt
 pub mod Ask
 pub mod Connection
+pub mod Formed
 pub mod Judge
 pub mod Call
 pub mod Queue
