@@ -18,4 +18,6 @@ pub mod Reports
 pub mod Fates
 pub mod Legal
 pub mod Ledgers
+pub mod Balances
+pub mod LapsesOnly
 pub mod Streams
