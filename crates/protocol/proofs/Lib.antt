@@ -20,4 +20,5 @@ pub mod Legal
 pub mod Ledgers
 pub mod Balances
 pub mod LapsesOnly
+pub mod OneToOne
 pub mod Streams
