@@ -1,2 +1,3 @@
--- The claim that every row of the table holds.
+-- The claims that every row of each table holds.
 pub mod Rows
+pub mod Senders

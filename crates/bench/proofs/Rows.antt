@@ -20,7 +20,7 @@ use Rattle.bench.specs.Table.{caseTable}
 
 -- one row, and the rows behind it
 infixr 5 _and_
-_and_ : {A B : Type 0} → A → B → A × B
+pub _and_ : {A B : Type 0} → A → B → A × B
 a and b = (a, b)
 
 pub every-row : All holds caseTable

@@ -1,3 +1,4 @@
--- The starred cases of the paper: what a row says, and the table.
+-- Tables of computed rows: what a row says, the starred cases of the paper, and who may send what.
 pub mod Row
 pub mod Table
+pub mod Senders

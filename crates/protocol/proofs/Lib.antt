@@ -6,6 +6,8 @@ pub mod Asking
 pub mod Sends
 pub mod Sound
 pub mod Slots
+pub mod Sizes
+pub mod FormedOnly
 pub mod Asks
 pub mod Turns
 pub mod Receipts
@@ -16,4 +18,7 @@ pub mod Reports
 pub mod Fates
 pub mod Legal
 pub mod Ledgers
+pub mod Balances
+pub mod LapsesOnly
+pub mod OneToOne
 pub mod Streams

@@ -6,11 +6,13 @@ pub mod Session
 pub mod Receipt
 pub mod Ask
 pub mod Connection
+pub mod Formed
 pub mod Judge
 pub mod Call
 pub mod Queue
 pub mod Result
 pub mod Observed
+pub mod Lapsing
 pub mod Asked
 pub mod Totals
 pub mod Fate
