@@ -36,7 +36,7 @@ use Rattle.protocol.specs.Totals.{blankLedger, Balanced, Covers}
 use Rattle.history.specs.Log.{Call, start, open-session, put, finish, turn, grant, abort, close, ping, shutdown, lost, receive, roomOf, State, Entry, next, out, run}
 use Rattle.history.specs.Log as log
 use Rattle.history.specs.Account.{Account, lineAfter, events, concerned, askedOf, farOf, observed, blankAccount}
-use Rattle.history.specs.Answers.{localAnswer, isLocal, gateAnswer}
+use Rattle.history.specs.Answers.{answerTold}
 use Rattle.history.specs.Meant.{headerDue, meantBy, ReadInOrder, mayGo}
 use Rattle.history.specs.Sums.{summed}
 use Rattle.history.specs.Fates.{fateTold}
@@ -205,18 +205,14 @@ OverLeaves s k =
     s .connection .over ≡ false → next s k .connection .over ≡ true
     → OnlyOver (s .connection) (next s k .connection) × (next s k .queue ≡ s .queue)
 
--- ---- a local call other than turn is taken exactly where 01 lets it be asked, and refused with its number else
+-- ---- each call answers the first of its checks, in 01's order, that refuses
 
--- `queue` is the length of the queue
-abbrev pub AsksExactly : Setup → ℕ → List Entry → Type 0
-AsksExactly s queue log =
-    (a c : List Entry) (e : Entry) → log ≡ a ++ (e ∷ c) → isLocal (e .call) ≡ true
-    → e .answer ≡ localAnswer s queue (observed s (askedOf (e .call)) a) (e .call)
-
--- where the checks before its search or its reading refuse a turn or a receive, the answer is the first of them
-abbrev pub GatesExactly : Setup → ℕ → List Entry → Type 0
-GatesExactly s queue log =
-    (a c : List Entry) (e : Entry) → log ≡ a ++ (e ∷ c) → e .answer ≡ gateAnswer s queue (observed s 0 a .line) (e .call) (e .answer)
+-- `queue` is the length of the queue; what the search of a turn and the reading of a receive answer behind their checks is in claims of
+-- their own
+abbrev pub AnswersExactly : Setup → ℕ → List Entry → Type 0
+AnswersExactly s queue log =
+    (a c : List Entry) (e : Entry) → log ≡ a ++ (e ∷ c)
+    → e .answer ≡ answerTold s queue (observed s (askedOf (e .call)) a) (e .call) (e .answer)
 
 -- ---- a message is taken exactly where 002 lets the far end send it
 
