@@ -1,9 +1,9 @@
--- asks-exactly and gates-exactly: a local call answers by its checks in order, told from the log, and so do turn and receive before
--- they search or read. From the exactness of each rule about one session.
+-- answers-exactly: each call answers by its checks in order, told from the log; turn and receive do so before they search or read.
+-- From the exactness of each rule about one session.
 use mathlib.Core.Path.{_≡_, refl, sym, ap, _∙_}
 use mathlib.Core.Bool.{Bool, true, false, not, false≢true}
 use mathlib.Core.List.{List, [], _∷_}
-use Prim.Native.Nat.{ℕ, _<_}
+use Prim.Native.Nat.{ℕ}
 use native.Mathlib.Omega.{arith}
 use lib.ListN.{length}
 use lib.Dec.{eqb, ltb, leb}
@@ -34,8 +34,8 @@ use Rattle.history.proofs.Decisions.{decide, outBy, out-is}
 use Rattle.laws.specs.Runs.{fold}
 use Rattle.history.specs.Account.{Line, lineAfter, Account, askedOf, accountAfter, blankAccount, observed}
 use Rattle.history.specs.Meant.{ungreeted}
-use Rattle.history.specs.Answers.{refusing, takenIf, ifUp, ifRoom, ifNumber, isPinging, localAnswer, isLocal, isUnstarted, gateAnswer}
-use Rattle.history.specs.Claims.{AsksExactly, GatesExactly}
+use Rattle.history.specs.Answers.{refusing, takenIf, ifUp, ifRoom, ifNumber, isPinging, isUnstarted, answerTold}
+use Rattle.history.specs.Claims.{AnswersExactly}
 use Rattle.history.proofs.Good.{Ok, setupOf, lineOf, accountOf}
 use Rattle.history.proofs.Steps.{formed-up}
 use Rattle.history.proofs.Simulation.{observed-is, run-made, made-ok, own-ok, same-setup, ok-formed}
@@ -100,60 +100,6 @@ outstanding-is : (p : Ping) → isOutstanding p ≡ isPinging (pingingOf p)
 outstanding-is waiting.None = refl
 outstanding-is (waiting.Outstanding k) = refl
 
--- ---- each call, of a state of a run
-
-module _ (s : State) (o : Ok (setupOf (s .connection)) s) (formed : wellFormed (s .connection) ≡ true) where
-  -- the number that a call names is one of the table, or the account does not matter
-  answered : (k : Call) → isLocal k ≡ true → outBy s k (decide (s .connection) (s .queue) k) .answer ≡ localAnswer (setupOf (s .connection)) (length (s .queue)) (accountOf s (askedOf k)) k
-  unfolding startRule openRule putRule finishRule grantRule abortRule closeRule pingRule shutdownRule lostRule settle
-  answered (start room) l =
-      formed-first s (start room) _ formed
-      ∙ then-checks s (start room) (s .connection .over) 2 _ _ (λ _. then-checks s (start room) (ltb (length room) 8) 8 _ _ (λ _. then-checks s (start room) (isServer (roleOf (s .connection .stage))) 4 _ _
-      (λ _. checks s (start room) (not (isFresh (s .connection .stage))) 5 _ ∙ ap (λ (b : Bool). refusing b 5 (ok done)) (fresh-is (s .connection .stage)))))
-  answered (open-session n) l =
-      formed-first s (open-session n) _ formed
-      ∙ then-checks s (open-session n) (s .connection .over) 2 _ _ (λ _. up-first s (open-session n) _ _ (λ up. then-checks s (open-session n) (leb 128 n) 3 _ _
-      (λ _. asks s (open-session n) n _ _ (openAsk (roleOf (s .connection .stage)) (at (s .connection) n)) (open-exact (farStart (s .connection)) (at (s .connection) n) (slot n (s .queue)) (roleOf (s .connection .stage))))))
-  answered (put n bytes) l =
-      formed-first s (put n bytes) _ formed
-      ∙ then-checks s (put n bytes) (s .connection .over) 2 _ _ (λ _. up-first s (put n bytes) _ _ (λ up. then-checks s (put n bytes) (not (eqb (length (s .queue)) queueSize)) 8 _ _
-      (λ _. then-checks s (put n bytes) (leb 128 n) 3 _ _
-      (λ num. let hn = leb-false 128 n num in
-      asks s (put n bytes) n _ _ (putAsk (at (s .connection) n) (length bytes))
-      (put-exact (farStart (s .connection)) (at (s .connection) n) (slot n (s .queue)) (length bytes) (o .fits n hn) (formed-up s o up n hn .waiting))))))
-  answered (finish n) l =
-      formed-first s (finish n) _ formed
-      ∙ then-checks s (finish n) (s .connection .over) 2 _ _ (λ _. up-first s (finish n) _ _ (λ up. then-checks s (finish n) (leb 128 n) 3 _ _
-      (λ _. asks s (finish n) n _ _ (finishAsk (at (s .connection) n)) (finish-exact (farStart (s .connection)) (at (s .connection) n) (slot n (s .queue))))))
-  answered (turn room) l = absurd (false≢true l)
-  answered (grant n amount room) l =
-      formed-first s (grant n amount room) _ formed
-      ∙ then-checks s (grant n amount room) (s .connection .over) 2 _ _ (λ _. up-first s (grant n amount room) _ _ (λ up. then-checks s (grant n amount room) (ltb (length room) 4) 8 _ _
-      (λ _. then-checks s (grant n amount room) (leb 128 n) 3 _ _
-      (λ _. asks s (grant n amount room) n _ _ (grantAsk (at (s .connection) n) amount) (grant-exact (farStart (s .connection)) (at (s .connection) n) (slot n (s .queue)) amount)))))
-  answered (abort n partial room) l =
-      formed-first s (abort n partial room) _ formed
-      ∙ then-checks s (abort n partial room) (s .connection .over) 2 _ _ (λ _. up-first s (abort n partial room) _ _ (λ up. then-checks s (abort n partial room) (ltb (length room) 4) 8 _ _
-      (λ _. then-checks s (abort n partial room) (leb 128 n) 3 _ _
-      (λ _. asks s (abort n partial room) n _ _ (abortAsk (roleOf (s .connection .stage)) (at (s .connection) n) partial)
-      (abort-exact (farStart (s .connection)) (at (s .connection) n) (slot n (s .queue)) (roleOf (s .connection .stage)) partial)))))
-  answered (close n room) l =
-      formed-first s (close n room) _ formed
-      ∙ then-checks s (close n room) (s .connection .over) 2 _ _ (λ _. up-first s (close n room) _ _ (λ up. then-checks s (close n room) (ltb (length room) 4) 8 _ _
-      (λ _. then-checks s (close n room) (leb 128 n) 3 _ _
-      (λ num. asks s (close n room) n _ _ (closeAsk (roleOf (s .connection .stage)) (at (s .connection) n))
-      (close-exact (farStart (s .connection)) (at (s .connection) n) (slot n (s .queue)) (roleOf (s .connection .stage)) (formed-up s o up n (leb-false 128 n num) .place))))))
-  answered (log.ping cookie room) l =
-      formed-first s (log.ping cookie room) _ formed
-      ∙ then-checks s (log.ping cookie room) (s .connection .over) 2 _ _ (λ _. up-first s (log.ping cookie room) _ _ (λ up. then-checks s (log.ping cookie room) (ltb (length room) 4) 8 _ _
-      (λ _. checks s (log.ping cookie room) (isOutstanding (s .connection .ping)) 13 _ ∙ ap (λ (b : Bool). refusing b 13 (ok done)) (outstanding-is (s .connection .ping)))))
-  answered (shutdown room) l =
-      formed-first s (shutdown room) _ formed
-      ∙ then-checks s (shutdown room) (s .connection .over) 2 _ _ (λ _. up-first s (shutdown room) _ _ (λ up. then-checks s (shutdown room) (ltb (length room) 4) 8 _ _
-      (λ _. checks s (shutdown room) (isClient (roleOf (s .connection .stage))) 4 _)))
-  answered lost l = formed-first s lost _ formed ∙ checks s lost (s .connection .over) 2 _
-  answered (receive input room) l = absurd (false≢true l)
-
 -- ---- what turn and receive refuse before they search or read
 
 -- an answer behind checks is behind them still
@@ -179,17 +125,17 @@ unstarted-is (stage.Up r far) = refl
 
 module _ (s : State) (formed : wellFormed (s .connection) ≡ true) where
   turn-gate : (room : List ℕ) → outBy s (turn room) (decide (s .connection) (s .queue) (turn room)) .answer
-      ≡ gateAnswer (setupOf (s .connection)) (length (s .queue)) (lineOf (s .connection)) (turn room) (outBy s (turn room) (decide (s .connection) (s .queue) (turn room)) .answer)
+      ≡ answerTold (setupOf (s .connection)) (length (s .queue)) (accountOf s 0) (turn room) (outBy s (turn room) (decide (s .connection) (s .queue) (turn room)) .answer)
   unfolding turnRule
   turn-gate room = to-rest
       ∙ again-4 (s .connection .over) (not (greeted (greetingOf (s .connection .stage)))) (ltb (length room) turnRoom) (not (eqb (length (s .queue)) queueSize)) 2 1 8 8 rest
-      ∙ ap (gateAnswer (setupOf (s .connection)) (length (s .queue)) (lineOf (s .connection)) (turn room)) (sym to-rest)
+      ∙ ap (answerTold (setupOf (s .connection)) (length (s .queue)) (accountOf s 0) (turn room)) (sym to-rest)
     where
       rest : Result Report
       rest = answers s (turn room) (serving (s .connection) (nextReady (s .connection)))
 
       to-rest : answers s (turn room) (turnRule (s .connection) (length (s .queue)) (length room))
-          ≡ gateAnswer (setupOf (s .connection)) (length (s .queue)) (lineOf (s .connection)) (turn room) rest
+          ≡ answerTold (setupOf (s .connection)) (length (s .queue)) (accountOf s 0) (turn room) rest
       to-rest =
           formed-first s (turn room) _ formed
           ∙ then-checks s (turn room) (s .connection .over) 2 _ _ (λ _. up-first s (turn room) _ _ (λ _. then-checks s (turn room) (ltb (length room) turnRoom) 8 _ _
@@ -206,14 +152,14 @@ module _ (s : State) (formed : wellFormed (s .connection) ≡ true) where
     heard-checks false n p = refl
 
     receive-gate : outBy s (receive input room) (decide (s .connection) (s .queue) (receive input room)) .answer
-        ≡ gateAnswer (setupOf (s .connection)) (length (s .queue)) (lineOf (s .connection)) (receive input room) (outBy s (receive input room) (decide (s .connection) (s .queue) (receive input room)) .answer)
+        ≡ answerTold (setupOf (s .connection)) (length (s .queue)) (accountOf s 0) (receive input room) (outBy s (receive input room) (decide (s .connection) (s .queue) (receive input room)) .answer)
     unfolding receiveRule hears
     receive-gate =
         to-rest ∙ again-3 (s .connection .over) (isUnstarted (roleOf (s .connection .stage)) (greetingOf (s .connection .stage))) (ltb (length room) 12) 2 1 8 (hears (take tt))
-        ∙ ap (gateAnswer (setupOf (s .connection)) (length (s .queue)) (lineOf (s .connection)) (receive input room)) (sym to-rest)
+        ∙ ap (answerTold (setupOf (s .connection)) (length (s .queue)) (accountOf s 0) (receive input room)) (sym to-rest)
       where
         to-rest : hears (receiveGate (s .connection) (length room))
-            ≡ gateAnswer (setupOf (s .connection)) (length (s .queue)) (lineOf (s .connection)) (receive input room) (hears (take tt))
+            ≡ answerTold (setupOf (s .connection)) (length (s .queue)) (accountOf s 0) (receive input room) (hears (take tt))
         to-rest =
             ap (λ (d : Decision). outBy s (receive input room) d .answer)
             (passes refuse (λ go. reading (s .connection) input (s .connection .stage)) 14 (check (s .connection .over) 2 (check (unstarted (s .connection .stage)) 1 (check (ltb (length room) 12) 8 (take tt)))) (ap not formed))
@@ -223,20 +169,60 @@ module _ (s : State) (formed : wellFormed (s .connection) ≡ true) where
             ∙ ap (λ (b : Bool). refusing b 1 (hears (check (ltb (length room) 12) 8 (take tt)))) (unstarted-is (s .connection .stage))
             ∙ ap (refusing (isUnstarted (roleOf (s .connection .stage)) (greetingOf (s .connection .stage))) 1) (heard-checks (ltb (length room) 12) 8 (take tt)))
 
-  gates : (k : Call) → outBy s k (decide (s .connection) (s .queue) k) .answer
-      ≡ gateAnswer (setupOf (s .connection)) (length (s .queue)) (lineOf (s .connection)) k (outBy s k (decide (s .connection) (s .queue) k) .answer)
-  gates (start room) = refl
-  gates (open-session n) = refl
-  gates (put n bytes) = refl
-  gates (finish n) = refl
-  gates (turn room) = turn-gate room
-  gates (grant n amount room) = refl
-  gates (abort n partial room) = refl
-  gates (close n room) = refl
-  gates (log.ping cookie room) = refl
-  gates (shutdown room) = refl
-  gates lost = refl
-  gates (receive input room) = receive-gate input room
+-- ---- each call, of a state of a run
+
+module _ (s : State) (o : Ok (setupOf (s .connection)) s) (formed : wellFormed (s .connection) ≡ true) where
+  -- the number that a call names is one of the table, or the account does not matter
+  answered : (k : Call) → outBy s k (decide (s .connection) (s .queue) k) .answer
+      ≡ answerTold (setupOf (s .connection)) (length (s .queue)) (accountOf s (askedOf k)) k (outBy s k (decide (s .connection) (s .queue) k) .answer)
+  unfolding startRule openRule putRule finishRule grantRule abortRule closeRule pingRule shutdownRule lostRule settle
+  answered (start room) =
+      formed-first s (start room) _ formed
+      ∙ then-checks s (start room) (s .connection .over) 2 _ _ (λ _. then-checks s (start room) (ltb (length room) 8) 8 _ _ (λ _. then-checks s (start room) (isServer (roleOf (s .connection .stage))) 4 _ _
+      (λ _. checks s (start room) (not (isFresh (s .connection .stage))) 5 _ ∙ ap (λ (b : Bool). refusing b 5 (ok done)) (fresh-is (s .connection .stage)))))
+  answered (open-session n) =
+      formed-first s (open-session n) _ formed
+      ∙ then-checks s (open-session n) (s .connection .over) 2 _ _ (λ _. up-first s (open-session n) _ _ (λ up. then-checks s (open-session n) (leb 128 n) 3 _ _
+      (λ _. asks s (open-session n) n _ _ (openAsk (roleOf (s .connection .stage)) (at (s .connection) n)) (open-exact (farStart (s .connection)) (at (s .connection) n) (slot n (s .queue)) (roleOf (s .connection .stage))))))
+  answered (put n bytes) =
+      formed-first s (put n bytes) _ formed
+      ∙ then-checks s (put n bytes) (s .connection .over) 2 _ _ (λ _. up-first s (put n bytes) _ _ (λ up. then-checks s (put n bytes) (not (eqb (length (s .queue)) queueSize)) 8 _ _
+      (λ _. then-checks s (put n bytes) (leb 128 n) 3 _ _
+      (λ num. let hn = leb-false 128 n num in
+      asks s (put n bytes) n _ _ (putAsk (at (s .connection) n) (length bytes))
+      (put-exact (farStart (s .connection)) (at (s .connection) n) (slot n (s .queue)) (length bytes) (o .fits n hn) (formed-up s o up n hn .waiting))))))
+  answered (finish n) =
+      formed-first s (finish n) _ formed
+      ∙ then-checks s (finish n) (s .connection .over) 2 _ _ (λ _. up-first s (finish n) _ _ (λ up. then-checks s (finish n) (leb 128 n) 3 _ _
+      (λ _. asks s (finish n) n _ _ (finishAsk (at (s .connection) n)) (finish-exact (farStart (s .connection)) (at (s .connection) n) (slot n (s .queue))))))
+  answered (turn room) = turn-gate s formed room
+  answered (grant n amount room) =
+      formed-first s (grant n amount room) _ formed
+      ∙ then-checks s (grant n amount room) (s .connection .over) 2 _ _ (λ _. up-first s (grant n amount room) _ _ (λ up. then-checks s (grant n amount room) (ltb (length room) 4) 8 _ _
+      (λ _. then-checks s (grant n amount room) (leb 128 n) 3 _ _
+      (λ _. asks s (grant n amount room) n _ _ (grantAsk (at (s .connection) n) amount) (grant-exact (farStart (s .connection)) (at (s .connection) n) (slot n (s .queue)) amount)))))
+  answered (abort n partial room) =
+      formed-first s (abort n partial room) _ formed
+      ∙ then-checks s (abort n partial room) (s .connection .over) 2 _ _ (λ _. up-first s (abort n partial room) _ _ (λ up. then-checks s (abort n partial room) (ltb (length room) 4) 8 _ _
+      (λ _. then-checks s (abort n partial room) (leb 128 n) 3 _ _
+      (λ _. asks s (abort n partial room) n _ _ (abortAsk (roleOf (s .connection .stage)) (at (s .connection) n) partial)
+      (abort-exact (farStart (s .connection)) (at (s .connection) n) (slot n (s .queue)) (roleOf (s .connection .stage)) partial)))))
+  answered (close n room) =
+      formed-first s (close n room) _ formed
+      ∙ then-checks s (close n room) (s .connection .over) 2 _ _ (λ _. up-first s (close n room) _ _ (λ up. then-checks s (close n room) (ltb (length room) 4) 8 _ _
+      (λ _. then-checks s (close n room) (leb 128 n) 3 _ _
+      (λ num. asks s (close n room) n _ _ (closeAsk (roleOf (s .connection .stage)) (at (s .connection) n))
+      (close-exact (farStart (s .connection)) (at (s .connection) n) (slot n (s .queue)) (roleOf (s .connection .stage)) (formed-up s o up n (leb-false 128 n num) .place))))))
+  answered (log.ping cookie room) =
+      formed-first s (log.ping cookie room) _ formed
+      ∙ then-checks s (log.ping cookie room) (s .connection .over) 2 _ _ (λ _. up-first s (log.ping cookie room) _ _ (λ up. then-checks s (log.ping cookie room) (ltb (length room) 4) 8 _ _
+      (λ _. checks s (log.ping cookie room) (isOutstanding (s .connection .ping)) 13 _ ∙ ap (λ (b : Bool). refusing b 13 (ok done)) (outstanding-is (s .connection .ping)))))
+  answered (shutdown room) =
+      formed-first s (shutdown room) _ formed
+      ∙ then-checks s (shutdown room) (s .connection .over) 2 _ _ (λ _. up-first s (shutdown room) _ _ (λ up. then-checks s (shutdown room) (ltb (length room) 4) 8 _ _
+      (λ _. checks s (shutdown room) (isClient (roleOf (s .connection .stage))) 4 _)))
+  answered lost = formed-first s lost _ formed ∙ checks s lost (s .connection .over) 2 _
+  answered (receive input room) = receive-gate s formed input room
 
 -- ---- a number above 127 is refused whatever is told of it
 
@@ -253,19 +239,19 @@ module _ (s : Setup) (q : ℕ) (a b : Account) (e : a .line ≡ b .line) where
   up-same : {x y : Result Report} → x ≡ y → ifUp (a .line) x ≡ ifUp (b .line) y
   up-same p = rw (e, p)
 
-  unknown : (k : Call) → leb 128 (askedOf k) ≡ true → localAnswer s q a k ≡ localAnswer s q b k
-  unknown (start room) h = absurd (false≢true h)
-  unknown (open-session n) h = up-same (beyond n h _ _)
-  unknown (put n bytes) h = up-same (ap (refusing (not (eqb q queueSize)) 8) (beyond n h _ _))
-  unknown (finish n) h = up-same (beyond n h _ _)
-  unknown (turn room) h = refl
-  unknown (grant n amount room) h = up-same (ap (ifRoom 4 room) (beyond n h _ _))
-  unknown (abort n partial room) h = up-same (ap (ifRoom 4 room) (beyond n h _ _))
-  unknown (close n room) h = up-same (ap (ifRoom 4 room) (beyond n h _ _))
-  unknown (log.ping cookie room) h = absurd (false≢true h)
-  unknown (shutdown room) h = absurd (false≢true h)
-  unknown lost h = absurd (false≢true h)
-  unknown (receive input room) h = refl
+  unknown : (k : Call) (rest : Result Report) → leb 128 (askedOf k) ≡ true → answerTold s q a k rest ≡ answerTold s q b k rest
+  unknown (start room) rest h = absurd (false≢true h)
+  unknown (open-session n) rest h = up-same (beyond n h _ _)
+  unknown (put n bytes) rest h = up-same (ap (refusing (not (eqb q queueSize)) 8) (beyond n h _ _))
+  unknown (finish n) rest h = up-same (beyond n h _ _)
+  unknown (turn room) rest h = absurd (false≢true h)
+  unknown (grant n amount room) rest h = up-same (ap (ifRoom 4 room) (beyond n h _ _))
+  unknown (abort n partial room) rest h = up-same (ap (ifRoom 4 room) (beyond n h _ _))
+  unknown (close n room) rest h = up-same (ap (ifRoom 4 room) (beyond n h _ _))
+  unknown (log.ping cookie room) rest h = absurd (false≢true h)
+  unknown (shutdown room) rest h = absurd (false≢true h)
+  unknown lost rest h = absurd (false≢true h)
+  unknown (receive input room) rest h = absurd (false≢true h)
 
 -- ---- of a log
 
@@ -276,46 +262,29 @@ module _ (setup : Setup) (hh : Proper setup) (queue : List ℕ) where
       line-of-any setup n 0 (log.log setup queue ks) (blankAccount setup) (blankAccount setup) refl
       ∙ ap (λ (a : Account). a .line) (observed-is setup hh queue ks 0 (omega arith))
 
-  told-calls : (ks : List Call) (k : Call)
-      → localAnswer setup (length queue) (accountOf (log.run setup queue ks) (askedOf k)) k ≡ localAnswer setup (length queue) (observed setup (askedOf k) (log.log setup queue ks)) k
-  told-calls ks k = go (leb 128 (askedOf k)) refl
+  told-calls : (ks : List Call) (k : Call) (rest : Result Report) → answerTold setup (length queue) (accountOf (log.run setup queue ks) (askedOf k)) k rest
+      ≡ answerTold setup (length queue) (observed setup (askedOf k) (log.log setup queue ks)) k rest
+  told-calls ks k rest = go (leb 128 (askedOf k)) refl
     where
-      go : (b : Bool) → leb 128 (askedOf k) ≡ b
-          → localAnswer setup (length queue) (accountOf (log.run setup queue ks) (askedOf k)) k ≡ localAnswer setup (length queue) (observed setup (askedOf k) (log.log setup queue ks)) k
-      go true e = unknown setup (length queue) _ _ (sym (line-is (askedOf k) ks)) k e
-      go false e = ap (λ (a : Account). localAnswer setup (length queue) a k) (sym (observed-is setup hh queue ks (askedOf k) (leb-false 128 (askedOf k) e)))
+      go : (b : Bool) → leb 128 (askedOf k) ≡ b → answerTold setup (length queue) (accountOf (log.run setup queue ks) (askedOf k)) k rest
+          ≡ answerTold setup (length queue) (observed setup (askedOf k) (log.log setup queue ks)) k rest
+      go true e = unknown setup (length queue) _ _ (sym (line-is (askedOf k) ks)) k rest e
+      go false e = ap (λ (a : Account). answerTold setup (length queue) a k rest) (sym (observed-is setup hh queue ks (askedOf k) (leb-false 128 (askedOf k) e)))
 
-  asked-calls : (ks : List Call) (k : Call) → isLocal k ≡ true
-      → out (log.run setup queue ks) k .answer ≡ localAnswer setup (length queue) (observed setup (askedOf k) (log.log setup queue ks)) k
-  asked-calls ks k l =
-      let s = log.run setup queue ks in
-      let o = run-made setup hh queue ks in
-      ap (λ (x : Entry). x .answer) (out-is s k)
-      ∙ answered s (own-ok setup s o) (ok-formed setup s o) k l
-      ∙ ap (λ (z : Setup). localAnswer z (length (s .queue)) (accountOf s (askedOf k)) k) (same-setup setup s o)
-      ∙ ap (λ (n : ℕ). localAnswer setup n (accountOf s (askedOf k)) k) (run-long setup (made setup queue) ks (made-ok setup hh queue))
-      ∙ told-calls ks k
-
-  -- of every role, header number, queue and list of calls
-  pub asks-exactly : (calls : List Call) → AsksExactly setup (length queue) (log.log setup queue calls)
-  unfolding out
-  asks-exactly calls a c e z l =
-      of-entries setup queue (λ g x. isLocal (x .call) ≡ true → x .answer ≡ localAnswer setup (length queue) (observed setup (askedOf (x .call)) g) (x .call))
-      (λ ks k h. asked-calls ks k h) calls a c e z l
-
-  gated-calls : (ks : List Call) (k : Call)
-      → out (log.run setup queue ks) k .answer ≡ gateAnswer setup (length queue) (observed setup 0 (log.log setup queue ks) .line) k (out (log.run setup queue ks) k .answer)
-  gated-calls ks k =
+  answered-calls : (ks : List Call) (k : Call) → out (log.run setup queue ks) k .answer
+      ≡ answerTold setup (length queue) (observed setup (askedOf k) (log.log setup queue ks)) k (out (log.run setup queue ks) k .answer)
+  answered-calls ks k =
       let s = log.run setup queue ks in
       let o = run-made setup hh queue ks in
       let x = outBy s k (decide (s .connection) (s .queue) k) .answer in
       rw out-is
-      (gates s (ok-formed setup s o) k
-      ∙ ap (λ (z : Setup). gateAnswer z (length (s .queue)) (lineOf (s .connection)) k x) (same-setup setup s o)
-      ∙ ap (λ (n : ℕ). gateAnswer setup n (lineOf (s .connection)) k x) (run-long setup (made setup queue) ks (made-ok setup hh queue))
-      ∙ ap (λ (l : Line). gateAnswer setup (length queue) l k x) (sym (line-is 0 ks)))
+      (answered s (own-ok setup s o) (ok-formed setup s o) k
+      ∙ ap (λ (z : Setup). answerTold z (length (s .queue)) (accountOf s (askedOf k)) k x) (same-setup setup s o)
+      ∙ ap (λ (n : ℕ). answerTold setup n (accountOf s (askedOf k)) k x) (run-long setup (made setup queue) ks (made-ok setup hh queue))
+      ∙ told-calls ks k x)
 
-  pub gates-exactly : (calls : List Call) → GatesExactly setup (length queue) (log.log setup queue calls)
+  -- of every role, header number, queue and list of calls
+  pub answers-exactly : (calls : List Call) → AnswersExactly setup (length queue) (log.log setup queue calls)
   unfolding out
-  gates-exactly calls a c e z =
-      of-entries setup queue (λ g x. x .answer ≡ gateAnswer setup (length queue) (observed setup 0 g .line) (x .call) (x .answer)) gated-calls calls a c e z
+  answers-exactly calls a c e z =
+      of-entries setup queue (λ g x. x .answer ≡ answerTold setup (length queue) (observed setup (askedOf (x .call)) g) (x .call) (x .answer)) answered-calls calls a c e z

@@ -24,18 +24,32 @@ use Rattle.protocol.specs.Call.{nextReady}
 use Rattle.protocol.specs.Result.{bytesOfAll}
 use Rattle.protocol.specs.Observed.{greeted, Sending, isReady, dueBy}
 use Rattle.protocol.proofs.Views.{greeted-is, ready-look}
-use Rattle.history.specs.Log.{Call, turn, State, Entry, next, out, made, Proper}
+use Rattle.history.specs.Log.{Call, start, open-session, put, finish, turn, grant, abort, close, shutdown, lost, receive, State, Entry, next, out, made, Proper}
 use Rattle.history.specs.Log as log
 use Rattle.history.proofs.Decisions.{decide, payloadOf, nextBy, outBy, next-is, out-is}
 use Rattle.history.specs.Account.{Line, Account, observed}
-use Rattle.history.specs.Claims.{ready, dataNumber, dataWritten, isTurn, lastServed, waitingBytes, Serves, MayTurn, NothingReady, Turns, BoundedWaiting}
-use Rattle.history.proofs.Good.{Ok, setupOf, lineOf, holds, one}
+use Rattle.history.specs.Claims.{ready, dataNumber, dataWritten, lastServed, waitingBytes, Serves, MayTurn, NothingReady, Turns, BoundedWaiting}
+use Rattle.history.proofs.Good.{isTurn, Ok, setupOf, lineOf, holds, one}
 use Rattle.history.proofs.Receives.{GoodBy}
 use Rattle.history.proofs.Simulation.{observed-is, run-made, made-ok, own-ok, same-setup, decide-good, next-ok, queue-refused, queue-violated}
 use Rattle.history.proofs.Fair.{nothing-data, error-data, ready-is, waits-log, own-log}
 use Rattle.history.proofs.Entries.{At, entry-at, call-told}
 use Rattle.history.proofs.Never.{never-14}
 use Rattle.history.proofs.Turning.{Clear, Way, early, none, taken, way, due-bytes, waiting-look, turn-bytes, last-run}
+
+not-turn : (k : Call) → ((room : List ℕ) → k ≡ turn room → ⊥) → isTurn k ≡ false
+not-turn (start room) h = refl
+not-turn (open-session n) h = refl
+not-turn (put n bytes) h = refl
+not-turn (finish n) h = refl
+not-turn (turn room) h = absurd (h room refl)
+not-turn (grant n amount room) h = refl
+not-turn (abort n partial room) h = refl
+not-turn (close n room) h = refl
+not-turn (log.ping cookie room) h = refl
+not-turn (shutdown room) h = refl
+not-turn lost h = refl
+not-turn (receive input room) h = refl
 
 -- ---- of one decision
 
@@ -212,10 +226,10 @@ module _ (setup : Setup) (hh : Proper setup) (queue : List ℕ) where
       (subst (λ (z : Entry). Turns setup (length queue) (log.log setup queue (x .before)) z (length room)) same
       (turns-calls setup hh queue (x .before) room))
 
-  quiet-log : (a : List Entry) (e : Entry) → At setup queue a e → isTurn (e .call) ≡ false → dataWritten setup e ≡ []
+  quiet-log : (a : List Entry) (e : Entry) → At setup queue a e → ((room : List ℕ) → e .call ≡ turn room → ⊥) → dataWritten setup e ≡ []
   quiet-log a e x h =
       let s = log.run setup queue (x .before) in
-      let k : isTurn (x .call) ≡ false = ap isTurn (sym (call-told s (x .call)) ∙ ap (λ (z : Entry). z .call) (x .entry)) ∙ h in
+      let k : isTurn (x .call) ≡ false = ap isTurn (sym (call-told s (x .call)) ∙ ap (λ (z : Entry). z .call) (x .entry)) ∙ not-turn (e .call) h in
       ap (dataWritten setup) (sym (x .entry)) ∙ quiet-out setup s (x .call) (run-made setup hh queue (x .before)) k
 
   never-log : (a : List Entry) (e : Entry) → At setup queue a e → e .answer ≡ refused 14 → ⊥

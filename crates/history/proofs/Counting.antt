@@ -35,8 +35,8 @@ use Rattle.history.specs.Log as log
 use Rattle.history.proofs.Decisions.{decide, payloadOf, outBy, out-is}
 use Rattle.history.specs.Account.{Account, only, events, reported, reportedOf, farOf, observed, writtenMessage}
 use Rattle.history.specs.Sums.{Sum, blankSum, sumAfter, summed}
-use Rattle.history.specs.Claims.{dataNumber, isTurn, lateOf, RationLedger, PutStream}
-use Rattle.history.proofs.Good.{Good, setupOf, lineOf, holds, ownOf, one}
+use Rattle.history.specs.Claims.{dataNumber, lateOf, RationLedger, PutStream}
+use Rattle.history.proofs.Good.{isTurn, Good, setupOf, lineOf, holds, ownOf, one}
 use Rattle.history.proofs.Written.{only-own}
 use Rattle.history.proofs.Receives.{GoodBy}
 use Rattle.history.proofs.Simulation.{decide-good, same-setup, own-ok, run-made, observed-is}

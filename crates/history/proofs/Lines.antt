@@ -42,9 +42,9 @@ use Rattle.history.proofs.Decisions.{queueAfter, outBy}
 use Rattle.history.specs.Account.{lineAfter, events, reported, reportedOf, writtenMessage, inScope}
 use Rattle.history.specs.Fates.{endTold}
 use Rattle.history.specs.Meant.{ungreeted, meantBy, ReadInOrder, mayGo}
-use Rattle.history.proofs.Good.{Ok, Good, endedAs, setupOf, lineOf, holds, accountOf, ownOf, farBy, one}
+use Rattle.history.proofs.Good.{isTurn, CookieFits, Ok, Good, endedAs, setupOf, lineOf, holds, accountOf, ownOf, farBy, one}
 use Rattle.history.proofs.Written.{Sendable, sent-read, sent-read-back, opening-read-back, nothing-read-back, nothing-read, only-own}
-use Rattle.history.specs.Claims.{dataNumber, dataWritten, isTurn, Fitting}
+use Rattle.history.specs.Claims.{dataNumber, dataWritten}
 use Rattle.laws.proofs.Runs.{still}
 
 -- ---- what is written is of no session
@@ -138,7 +138,7 @@ module _ (s : State) (o : Ok (setupOf (s .connection)) s) where
       → ((m : ℕ) → events (roleOf (s .connection .stage)) m (outBy s k (accept (lineEffect st p en rep outs))) ≡ [])
       → lineAfter (lineOf (s .connection)) (outBy s k (accept (lineEffect st p en rep outs))) ≡ lineOf (commit (s .connection) (lineEffect st p en rep outs))
       → s .connection .over ≡ false → reportedOf k rep ≡ 0 → outs ≡ meantBy (setupOf (s .connection)) (accountOf s 0) k (ok rep)
-      → (Fitting k → ReadInOrder (roleOf (s .connection .stage)) (outBy s k (accept (lineEffect st p en rep outs)) .wrote) outs)
+      → (CookieFits k → ReadInOrder (roleOf (s .connection .stage)) (outBy s k (accept (lineEffect st p en rep outs)) .wrote) outs)
       → Every (mayGo (setupOf (s .connection)) (accountOf s 0) (outBy s k (accept (lineEffect st p en rep outs)))) outs
       → endTold k (ok rep) ≡ endedAs en → Good (setupOf (s .connection)) s k (lineEffect st p en rep outs)
   unfolding fold
@@ -218,7 +218,7 @@ module _ (s : State) (o : Ok (setupOf (s .connection)) s) where
       line-good (log.ping cookie room) (s .connection .stage) (ping.Outstanding cookie) goes-on done (sent (msg.Ping cookie) ∷ []) refl refl refl (o .far) (inl refl)
       (λ m. ping-no-event (roleOf (s .connection .stage)) cookie m) refl live refl refl
       (λ fits. sent-read-back (roleOf (s .connection .stage)) (msg.Ping cookie) []
-      (record { shift = omega arith; session = omega arith; number = fits; sender = refl; flags = refl; body = omega arith }))
+      (record { shift = omega arith; session = omega arith; number = fits cookie room refl; sender = refl; flags = refl; body = omega arith }))
       (and-both (ap not live) (greeted-is (s .connection .stage) ∙ not-false (exchanged (s .connection .stage)) up), tt) refl
 
   pub shutdown-good : (room : List ℕ) → Takes (Good (setupOf (s .connection)) s (shutdown room)) (shutdownRule (s .connection) (length room))

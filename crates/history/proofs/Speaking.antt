@@ -24,8 +24,8 @@ use Rattle.history.specs.Log as log
 use Rattle.history.proofs.Decisions.{decide, payloadOf, outBy, out-is}
 use Rattle.history.specs.Account.{Account, concerned}
 use Rattle.history.specs.Meant.{ungreeted, meantBy, ReadInOrder, mayGo}
-use Rattle.history.specs.Claims.{Fitting, accountBefore, ReadsBack, SendsAllowed}
-use Rattle.history.proofs.Good.{Ok, setupOf, accountOf}
+use Rattle.history.specs.Claims.{accountBefore, ReadsBack, SendsAllowed}
+use Rattle.history.proofs.Good.{CookieFits, Ok, setupOf, accountOf}
 use Rattle.history.proofs.Written.{sent-read-back, opening-read-back}
 use Rattle.history.proofs.Receives.{GoodBy}
 use Rattle.history.proofs.Simulation.{decide-good, same-setup, own-ok, observed-is, run-made}
@@ -33,7 +33,7 @@ use Rattle.history.proofs.Entries.{of-entries}
 
 -- what an entry writes, by what is told of the number that it concerns
 pub record Speaks (s : Setup) (a : Account) (e : Entry) : Type 0 where
-  pub reads : Fitting (e .call) → ReadInOrder (s .role) (e .wrote) (meantBy s a (e .call) (e .answer))
+  pub reads : CookieFits (e .call) → ReadInOrder (s .role) (e .wrote) (meantBy s a (e .call) (e .answer))
   pub allowed : Every (mayGo s a e) (meantBy s a (e .call) (e .answer))
 
 -- ---- the answer to a violation

@@ -33,10 +33,10 @@ use Rattle.laws.specs.Room.{overlaid}
 use Rattle.protocol.specs.Observed.{Pinging, greeted, awaits, Sending, silent, sending, isReady, anyLapse, ends, established, dueData, lateFor, mayArrive, wrongNumber}
 use Rattle.protocol.specs.Fate.{fateOf}
 use Rattle.protocol.specs.Totals.{blankLedger, Balanced, Covers}
-use Rattle.history.specs.Log.{Call, start, open-session, put, finish, turn, grant, abort, close, ping, shutdown, lost, receive, roomOf, State, Entry, next, out, run}
+use Rattle.history.specs.Log.{Call, turn, ping, receive, roomOf, State, Entry, next, out, run}
 use Rattle.history.specs.Log as log
 use Rattle.history.specs.Account.{Account, lineAfter, events, concerned, askedOf, farOf, observed, blankAccount}
-use Rattle.history.specs.Answers.{localAnswer, isLocal, gateAnswer}
+use Rattle.history.specs.Answers.{answerTold}
 use Rattle.history.specs.Meant.{headerDue, meantBy, ReadInOrder, mayGo}
 use Rattle.history.specs.Sums.{summed}
 use Rattle.history.specs.Fates.{fateTold}
@@ -65,20 +65,6 @@ dataNumber (violation n) = []
 -- the number whose data message an entry wrote first; reads-back says that nothing stands behind it
 abbrev pub dataWritten : Setup → Entry → List ℕ
 dataWritten s e = dataNumber (readMessage (s .role) (e .wrote))
-
-abbrev pub isTurn : Call → Bool
-isTurn (start room) = false
-isTurn (open-session n) = false
-isTurn (put n bytes) = false
-isTurn (finish n) = false
-isTurn (turn room) = true
-isTurn (grant n amount room) = false
-isTurn (abort n partial room) = false
-isTurn (close n room) = false
-isTurn (ping cookie room) = false
-isTurn (shutdown room) = false
-isTurn lost = false
-isTurn (receive input room) = false
 
 abbrev pub has : ℕ → List ℕ → Bool
 has n [] = false
@@ -150,7 +136,7 @@ pub record BoundedWaiting (s : Setup) (queue : ℕ) (log : List Entry) : Type 0 
   pub own-by-128 : (a b c : List Entry) → log ≡ a ++ (b ++ c) → (n : ℕ) → n < 128 → ready s n a ≡ true → Every (λ e. not (lapse s n e)) b
       → 128 ≤ length (gather (dataWritten s) b) → has n (gather (dataWritten s) b) ≡ true
   pub turns : (a c : List Entry) (e : Entry) (room : List ℕ) → log ≡ a ++ (e ∷ c) → e .call ≡ turn room → Turns s queue a e (length room)
-  pub only-turns-write-data : (a c : List Entry) (e : Entry) → log ≡ a ++ (e ∷ c) → isTurn (e .call) ≡ false → dataWritten s e ≡ []
+  pub only-turns-write-data : (a c : List Entry) (e : Entry) → log ≡ a ++ (e ∷ c) → ((room : List ℕ) → e .call ≡ turn room → ⊥) → dataWritten s e ≡ []
   pub never-14 : (a c : List Entry) (e : Entry) → log ≡ a ++ (e ∷ c) → e .answer ≡ refused 14 → ⊥
 
 -- ---- what a call that is not taken leaves, of every state and not only of a history
@@ -205,18 +191,14 @@ OverLeaves s k =
     s .connection .over ≡ false → next s k .connection .over ≡ true
     → OnlyOver (s .connection) (next s k .connection) × (next s k .queue ≡ s .queue)
 
--- ---- a local call other than turn is taken exactly where 01 lets it be asked, and refused with its number else
+-- ---- each call answers the first of its checks, in 01's order, that refuses
 
--- `queue` is the length of the queue
-abbrev pub AsksExactly : Setup → ℕ → List Entry → Type 0
-AsksExactly s queue log =
-    (a c : List Entry) (e : Entry) → log ≡ a ++ (e ∷ c) → isLocal (e .call) ≡ true
-    → e .answer ≡ localAnswer s queue (observed s (askedOf (e .call)) a) (e .call)
-
--- where the checks before its search or its reading refuse a turn or a receive, the answer is the first of them
-abbrev pub GatesExactly : Setup → ℕ → List Entry → Type 0
-GatesExactly s queue log =
-    (a c : List Entry) (e : Entry) → log ≡ a ++ (e ∷ c) → e .answer ≡ gateAnswer s queue (observed s 0 a .line) (e .call) (e .answer)
+-- `queue` is the length of the queue; what the search of a turn and the reading of a receive answer behind their checks is in claims of
+-- their own
+abbrev pub AnswersExactly : Setup → ℕ → List Entry → Type 0
+AnswersExactly s queue log =
+    (a c : List Entry) (e : Entry) → log ≡ a ++ (e ∷ c)
+    → e .answer ≡ answerTold s queue (observed s (askedOf (e .call)) a) (e .call) (e .answer)
 
 -- ---- a message is taken exactly where 002 lets the far end send it
 
@@ -305,24 +287,11 @@ accountBefore s a e = observed s (concerned (e .call) (e .answer)) a
 abbrev pub meant : Setup → List Entry → Entry → List Output
 meant s a e = meantBy s (accountBefore s a e) (e .call) (e .answer)
 
--- a cookie has the 16 bits of its place in the message
-abbrev pub Fitting : Call → Type 0
-Fitting (start room) = Unit {0}
-Fitting (open-session n) = Unit {0}
-Fitting (put n bytes) = Unit {0}
-Fitting (finish n) = Unit {0}
-Fitting (turn room) = Unit {0}
-Fitting (grant n amount room) = Unit {0}
-Fitting (abort n partial room) = Unit {0}
-Fitting (close n room) = Unit {0}
-Fitting (ping cookie room) = cookie < 65_536
-Fitting (shutdown room) = Unit {0}
-Fitting lost = Unit {0}
-Fitting (receive input room) = Unit {0}
-
+-- a ping's cookie has the 16 bits of its place in the message
 abbrev pub ReadsBack : Setup → List Entry → Type 0
 ReadsBack s log =
-    (a c : List Entry) (e : Entry) → log ≡ a ++ (e ∷ c) → Fitting (e .call) → ReadInOrder (s .role) (e .wrote) (meant s a e)
+    (a c : List Entry) (e : Entry) → log ≡ a ++ (e ∷ c) → ((cookie : ℕ) (room : List ℕ) → e .call ≡ ping cookie room → cookie < 65_536)
+    → ReadInOrder (s .role) (e .wrote) (meant s a e)
 
 abbrev pub SendsAllowed : Setup → List Entry → Type 0
 SendsAllowed s log = (a c : List Entry) (e : Entry) → log ≡ a ++ (e ∷ c) → Every (mayGo s (accountBefore s a e) e) (meant s a e)
