@@ -32,22 +32,13 @@ use Rattle.history.specs.Account.{Line, lineAfter, events, reported, rep
 use Rattle.history.specs.Fates.{endTold}
 use Rattle.history.specs.Meant.{meantFor, meantOfAll, meantBy, ReadInOrder, mayGo}
 use Rattle.history.specs.Claims.{dataWritten, has}
-
-abbrev pub lineOf : Connection → Line
-lineOf c = record { over = c .over; greeting = greetingOf (c .stage); pinging = pingingOf (c .ping) }
+pub use Rattle.history.specs.Held.{lineOf, holds, accountOf}
 
 abbrev pub ownOf : Setup → Ration
 ownOf setup = fromHeader (setup .header)
 
 abbrev pub farBy : Stage → Ration
 farBy s = fromHeader (farNumber s)
-
--- what the state holds of a number
-abbrev pub holds : State → ℕ → Seen
-holds s n = look (farStart (s .connection)) (at (s .connection) n) (slot n (s .queue))
-
-abbrev pub accountOf : State → ℕ → Account
-accountOf s n = record { line = lineOf (s .connection); seen = holds s n }
 
 -- what the connection was made from
 abbrev pub setupOf : Connection → Setup

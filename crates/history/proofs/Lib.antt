@@ -10,6 +10,7 @@ pub mod Receives
 pub mod Simulation
 pub mod Fair
 pub mod Turning
+pub mod Serving
 pub mod Entries
 pub mod Rulings
 pub mod Never

@@ -5,7 +5,7 @@ use mathlib.Core.Path.{_≡_}
 use mathlib.Core.Logic.{_↔_}
 use mathlib.Core.Bool.{Bool, true, false, not, _&&_, _||_}
 use mathlib.Core.List.{List, [], _∷_, _++_}
-use lib.ListN.{length, take}
+use lib.ListN.{length, take, getD}
 use lib.Dec.{eqb}
 use Rattle.laws.specs.Result.{Result, ok, refused, violation}
 use Rattle.laws.specs.Circle.{nearest}
@@ -24,7 +24,7 @@ use Rattle.state.specs.declared.Stage.{Stage}
 use Rattle.state.specs.declared.Stage.the-variants as stage
 use Rattle.state.specs.declared.Connection.{Connection}
 use Rattle.state.specs.declared.Setup.{Setup}
-use Rattle.protocol.specs.Slot.{queueSize, turnRoom}
+use Rattle.protocol.specs.Slot.{slotSize, queueSize, turnRoom}
 use Rattle.protocol.specs.Queue.{slot}
 use Rattle.protocol.specs.Message.{ConnectionMessage, no-operation-of, shutdown-of, error-of, ping-of, ping-ack-of, numbered, Scope, whole, of-session, scope}
 use Rattle.protocol.specs.Connection.{otherEnd, at}
@@ -33,9 +33,10 @@ use Rattle.laws.specs.Room.{overlaid}
 use Rattle.protocol.specs.Observed.{Pinging, greeted, awaits, Sending, silent, sending, isReady, anyLapse, ends, established, dueData, lateFor, mayArrive, wrongNumber}
 use Rattle.protocol.specs.Fate.{fateOf}
 use Rattle.protocol.specs.Totals.{blankLedger, Balanced, Covers}
-use Rattle.history.specs.Log.{Call, turn, ping, receive, roomOf, State, Entry, next, out, run}
+use Rattle.history.specs.Log.{Call, put, turn, ping, receive, roomOf, State, Entry, next, out, run}
 use Rattle.history.specs.Log as log
 use Rattle.history.specs.Account.{Account, lineAfter, events, concerned, askedOf, farOf, observed, blankAccount}
+use Rattle.history.specs.Held.{accountOf}
 use Rattle.history.specs.Answers.{answerTold}
 use Rattle.history.specs.Meant.{headerDue, meantBy, ReadInOrder, mayGo}
 use Rattle.history.specs.Sums.{summed}
@@ -295,6 +296,22 @@ ReadsBack s log =
 
 abbrev pub SendsAllowed : Setup → List Entry → Type 0
 SendsAllowed s log = (a c : List Entry) (e : Entry) → log ≡ a ++ (e ∷ c) → Every (mayGo s (accountBefore s a e) e) (meant s a e)
+
+-- ---- what the state holds is what the log tells
+
+abbrev pub StateTold : Setup → List ℕ → List Call → ℕ → Type 0
+StateTold s queue calls n = accountOf (run s queue calls) n ≡ observed s n (log.log s queue calls)
+
+-- ---- put and turn leave zeros behind the bytes that wait in the slot they serve, and no call changes another slot
+
+-- each byte of a number's slot behind those that wait
+abbrev pub RestZero : State → ℕ → Type 0
+RestZero t n = (i : ℕ) → at (t .connection) n .waiting ≤ i → i < slotSize → getD (slot n (t .queue)) i 1 ≡ 0
+
+pub record SlotsServed (s : State) : Type 0 where
+  pub by-put : (n : ℕ) (bytes : List ℕ) → out s (put n bytes) .answer ≡ ok done → RestZero (next s (put n bytes)) n
+  pub by-turn : (room : List ℕ) (n : ℕ) → out s (turn room) .answer ≡ ok (served n) → RestZero (next s (turn room)) n
+  pub others : (k : Call) (n : ℕ) → n < 128 → (concerned k (out s k .answer) ≡ n → ⊥) → slot n (next s k .queue) ≡ slot n (s .queue)
 
 -- ---- a ration is its start, plus what was granted, less what was spent, counted since the session began
 

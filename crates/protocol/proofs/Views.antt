@@ -30,29 +30,7 @@ use Rattle.protocol.specs.Ask.{sends, positive, sendable, due, readySess
 use Rattle.protocol.specs.Connection.{exchanged, farNumber, placed, sessionFormed}
 use Rattle.protocol.specs.Judge.{matches}
 use Rattle.protocol.specs.Observed.{Greeting, no-header, own-header, both-headers, greeted, startTold, Pinging, no-ping, pinged, awaits, Sending, silent, sending, isEmpty, anyLeft, isReady, Ends, unused, ends, Seen, dataLeaves, dueLength}
-
-abbrev pub endsOf : Sides → Ends
-endsOf sides.Idle = unused
-endsOf (sides.Opening before.Idle) = unused
-endsOf (sides.Opening before.Finished) = ends side.Finished side.Ended
-endsOf (sides.Opening before.Ended) = ends side.Ended side.Ended
-endsOf (sides.Live o t) = ends o t
-
-abbrev pub sendsOf : Ration → Sides → List ℕ → Ration → Bool → Sending
-sendsOf far sides.Idle waiting r finish = silent
-sendsOf far (sides.Opening b) waiting r finish = sending true waiting far finish
-sendsOf far (sides.Live side.Open t) waiting r finish = sending false waiting r finish
-sendsOf far (sides.Live side.Finished t) waiting r finish = silent
-sendsOf far (sides.Live side.Ended t) waiting r finish = silent
-
--- the session x, whose slot holds the bytes s
-abbrev pub look : Ration → Session → List ℕ → Seen
-look far x s =
-    record {
-      standing = endsOf (x .sides);
-      sends = sendsOf far (x .sides) (take (x .waiting) s) (x .outbound) (x .finish);
-      inbound = x .inbound;
-    }
+pub use Rattle.protocol.specs.Held.{endsOf, sendsOf, look, greetingOf, pingingOf}
 
 pub look-path : {far far′ : Ration} {x y : Session} {s t : List ℕ} → far ≡ far′ → x ≡ y → s ≡ t → look far x s ≡ look far′ y t
 look-path p q r = rw (p, q, r)
@@ -61,15 +39,6 @@ pub seen-path : {a b : Seen} → a .standing ≡ b .standing → a .sends ≡ b 
 seen-path p q r i = record { standing = p i; sends = q i; inbound = r i }
 
 -- ---- the words of the log and those of the rules
-
-abbrev pub greetingOf : Stage → Greeting
-greetingOf (stage.Fresh r) = no-header
-greetingOf stage.Started = own-header
-greetingOf (stage.Up r far) = both-headers far
-
-abbrev pub pingingOf : Ping → Pinging
-pingingOf ping.None = no-ping
-pingingOf (ping.Outstanding k) = pinged k
 
 pub greeted-is : (st : Stage) → greeted (greetingOf st) ≡ exchanged st
 greeted-is (stage.Fresh r) = refl

@@ -12,6 +12,7 @@ pub mod Call
 pub mod Queue
 pub mod Result
 pub mod Observed
+pub mod Held
 pub mod Lapsing
 pub mod Asked
 pub mod Totals
