@@ -14,6 +14,7 @@ use Rattle.laws.proofs.Tests.{and-first, and-second}
 use Rattle.laws.proofs.Results.{ok-same, refused-not-ok, violation-not-ok}
 use Rattle.laws.proofs.Words.{high, low, joined}
 use Rattle.laws.proofs.Lists.{Bytes, bytes-cons, elements, take-elements}
+use Rattle.wire.specs.Back.{NumberBack}
 use Rattle.wire.specs.Layout.{fixed, digits, initialRation}
 use Rattle.wire.specs.Connection.{connectionLayout, parseConnectionHeader, readConnectionHeader, connectionHeader}
 use Rattle.wire.proofs.Tables.{two-bytes, header-fixed}
@@ -92,12 +93,6 @@ module _ (s : List ℕ) (n : ℕ) (bytes : Bytes s) where
 
   header-small : readConnectionHeader s ≡ ok n → n < 65_536
   header-small q = omega (arith, held q .1, bytes 5, bytes 6)
-
--- bytes that the reader gives back as the number
-pub record NumberBack (n : ℕ) : Type 0 where
-  pub bytes : List ℕ
-  pub each : Bytes bytes
-  pub reads : readConnectionHeader bytes ≡ ok n
 
 no-bytes : Bytes []
 no-bytes i = omega arith

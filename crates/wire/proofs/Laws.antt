@@ -19,6 +19,7 @@ use Rattle.laws.proofs.Words.{high, low}
 use Rattle.laws.proofs.Lists.{Bytes, bytes-cons, elements, take-elements}
 use Rattle.wire.specs.declared.Role.{Role}
 use Rattle.wire.specs.declared.Message.{Message}
+use Rattle.wire.specs.Back.{GivenBack}
 use Rattle.wire.specs.Message.{parseHeader, bodyLength, withBody, readMessage, firstByte, secondByte, numberOf, header, writable}
 use Rattle.wire.proofs.Reading.{message-short, message-long}
 use Rattle.wire.proofs.Writing.{writable-has}
@@ -123,14 +124,6 @@ module _ (from : Role) (s : List ℕ) (m : Message) (bytes : Bytes s) (q : readM
       (eq-eqb (bodyLength m) (bodyLength m) refl)
 
 -- ---- what the writer refuses
-
--- bytes that are read as the message, with the body behind its header
-pub record GivenBack (from : Role) (m : Message) (body : List ℕ) : Type 0 where
-  pub bytes : List ℕ
-  pub each : Bytes bytes
-  pub reads : readMessage from bytes ≡ ok m
-  pub whole : length bytes ≡ 4 + bodyLength m
-  pub follows : drop 4 bytes ≡ body
 
 module _ (from : Role) (m : Message) (body : List ℕ) where
   written-back : Bytes body → numberOf m < 65_536 → writable from m (length body) ≡ true → GivenBack from m body

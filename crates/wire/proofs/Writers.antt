@@ -15,10 +15,11 @@ use Rattle.laws.proofs.Results.{ok-same, refused-same, refused-not-ok}
 use Rattle.laws.proofs.Lists.{Bytes}
 use Rattle.wire.specs.declared.Role.{Role}
 use Rattle.wire.specs.declared.Message.{Message}
+use Rattle.wire.specs.Back.{GivenBack, Wrote}
 use Rattle.wire.specs.Message.{readMessage, numberOf, header, writable, writeMessage}
 use Rattle.wire.specs.Connection.{readConnectionHeader, writeConnectionHeader}
 use Rattle.wire.proofs.Writing.{header-ok, header-no-room}
-use Rattle.wire.proofs.Laws.{read-written, GivenBack, writer-exact}
+use Rattle.wire.proofs.Laws.{read-written, writer-exact}
 use Rattle.wire.proofs.ConnectionLaws.{header-read-written}
 
 abbrev answer : Result ℕ × List ℕ → Result ℕ
@@ -26,13 +27,6 @@ answer r = r .0
 
 abbrev after : Result ℕ × List ℕ → List ℕ
 after r = r .1
-
--- what a writer that wrote k bytes has done to its room: the message stands first, is read as itself, and the rest is as lent
-pub record Wrote (from : Role) (m : Message) (body room : List ℕ) (k : ℕ) (out : List ℕ) : Type 0 where
-  pub count : k ≡ 4 + length body
-  pub fits : k ≤ length room
-  pub stands : out ≡ header m ++ body ++ drop k room
-  pub reads : readMessage from out ≡ ok m
 
 -- the three ways of the writer
 data Way (from : Role) (m : Message) (body room : List ℕ) : Type 0 where

@@ -4,3 +4,4 @@ pub mod FirstByte
 pub mod Layout
 pub mod Message
 pub mod Connection
+pub mod Back
