@@ -5,5 +5,6 @@ pub mod ServerRun
 pub mod Ledgers
 pub mod Breaks
 pub mod Lapses
+pub mod Waiting
 pub mod Filling
 pub mod Full
