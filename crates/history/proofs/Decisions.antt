@@ -83,7 +83,7 @@ outBy s k d =
 
 -- ---- a call that is lent no room writes nothing
 
-abbrev Silent : Decision → Type 0
+abbrev pub Silent : Decision → Type 0
 Silent d = writtenBy [] d ≡ []
 
 silent : (p : Plan Effect) → Takes (λ e. Silent (accept e)) p → Silent (decided p)
@@ -96,19 +96,19 @@ module _ (c : Connection) (n : ℕ) where
       takes-then (λ e. Silent (accept e)) (setting-session c n (c .last) done) p
       (takes-map (λ t q. ap (λ (ms : List SessionMessage). bytesOfAll [] (map (λ m. sent (numbered n m)) ms)) q) p h)
 
-  open-silent : Silent (decided (openRule c n))
+  pub open-silent : Silent (decided (openRule c n))
   unfolding openRule
   open-silent = silent _ (λ _ _ _ _. says-nothing (openAsk (roleOf (c .stage)) (at c n)) (open-sends (roleOf (c .stage)) (at c n)))
 
-  put-silent : (bytes queue : ℕ) → Silent (decided (putRule c n bytes queue))
+  pub put-silent : (bytes queue : ℕ) → Silent (decided (putRule c n bytes queue))
   unfolding putRule
   put-silent bytes queue = silent _ (λ _ _ _ _ _. says-nothing (putAsk (at c n) bytes) (put-sends (at c n) bytes))
 
-  finish-silent : Silent (decided (finishRule c n))
+  pub finish-silent : Silent (decided (finishRule c n))
   unfolding finishRule
   finish-silent = silent _ (λ _ _ _ _. says-nothing (finishAsk (at c n)) (finish-sends (at c n)))
 
-lost-silent : (c : Connection) → Silent (decided (lostRule c))
+pub lost-silent : (c : Connection) → Silent (decided (lostRule c))
 unfolding lostRule bytesOfAll
 lost-silent c = silent _ (λ _ _. refl)
 
