@@ -17,10 +17,10 @@ use Rattle.protocol.specs.Plan.{Plan, settle}
 use Rattle.protocol.specs.Connection.{Cause, shutdown-received, error-received, own-shutdown, line-lost, at, wellFormed, ending, ended}
 use Rattle.protocol.specs.Judge.{Report, done, served, header-received, message, Effect, Breach, Decision, refuse, violate, accept, errorAfter}
 use Rattle.laws.specs.Room.{overlaid}
-use Rattle.protocol.specs.Result.{bytesOfAll, extentOf}
-use Rattle.history.specs.Log.{Call, start, open-session, put, finish, turn, grant, abort, close, shutdown, lost, receive, roomOf, State}
+use Rattle.protocol.specs.Result.{Given, bytesOfAll, extentOf}
+use Rattle.history.specs.Log.{Call, start, open-session, put, finish, turn, grant, abort, close, shutdown, lost, receive, roomOf, State, Entry}
 use Rattle.history.specs.Log as log
-use Rattle.history.proofs.Decisions.{decide, payloadOf, nextBy, outBy, next-is, out-is}
+use Rattle.history.proofs.Decisions.{decide, payloadOf, nextBy, outBy, called-is, next-is, out-is}
 use Rattle.protocol.proofs.Plans.{settled, stops-all, takes-all}
 use Rattle.history.specs.Claims.{takesInput, SameButOutcome, OnlyOver, errorBytes, RefusedLeaves}
 use Rattle.history.proofs.Simulation.{ended-at, queue-refused, queue-violated}
@@ -159,7 +159,13 @@ module _ (s : State) (k : Call) where
   refused-leaves =
       let h = ruled (wellFormed (s .connection)) refl in
       record {
-        refusal = λ n e. rw (next-is, out-is) (refusal-by (decide (s .connection) (s .queue) k) (h .0) n (rw out-is at e));
+        refusal =
+            λ n e. let z = refusal-by (decide (s .connection) (s .queue) k) (h .0) n (rw out-is at e) in (
+              z .0,
+              next-is s k ∙ z .1,
+              ap (λ (x : Entry). x .wrote) (out-is s k) ∙ z .2,
+              ap (λ (g : Given × List ℕ × List ℕ). g .2) (called-is s k) ∙ z .3,
+            );
         violated = λ n e. rw (next-is, out-is) (violated-by (decide (s .connection) (s .queue) k) (h .1) n (rw out-is at e));
         unused = λ e. rw out-is (unused-by (decide (s .connection) (s .queue) k) (rw out-is at e));
         receives = λ n e. violated-receive (s .connection) (s .queue) k (violation-of (decide (s .connection) (s .queue) k) n (rw out-is at e));

@@ -24,3 +24,4 @@ pub mod Counting
 pub mod Answering
 pub mod Outcomes
 pub mod Ends
+pub mod Rooms

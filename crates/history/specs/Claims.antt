@@ -1,11 +1,11 @@
 -- What is claimed of every log: of every role, header number, queue and list of calls, refused ones included; and of every
--- state, what a call that is not taken leaves.
+-- state, what a call that is not taken leaves, what any call leaves of its room, and which call is refused with 14.
 use Prim.Native.Nat.{ℕ, _+_, _≤_, _<_}
 use mathlib.Core.Path.{_≡_}
 use mathlib.Core.Logic.{_↔_}
 use mathlib.Core.Bool.{Bool, true, false, not, _&&_, _||_}
 use mathlib.Core.List.{List, [], _∷_, _++_}
-use lib.ListN.{length, take, getD}
+use lib.ListN.{length, take, drop, getD}
 use lib.Dec.{eqb}
 use Rattle.laws.specs.Result.{Result, ok, refused, violation}
 use Rattle.laws.specs.Circle.{nearest}
@@ -27,13 +27,12 @@ use Rattle.state.specs.declared.Setup.{Setup}
 use Rattle.protocol.specs.Slot.{slotSize, queueSize, turnRoom}
 use Rattle.protocol.specs.Queue.{slot}
 use Rattle.protocol.specs.Message.{ConnectionMessage, no-operation-of, shutdown-of, error-of, ping-of, ping-ack-of, numbered, Scope, whole, of-session, scope}
-use Rattle.protocol.specs.Connection.{otherEnd, at}
+use Rattle.protocol.specs.Connection.{otherEnd, at, wellFormed}
 use Rattle.protocol.specs.Judge.{Report, done, served, header-received, message, Output}
-use Rattle.laws.specs.Room.{overlaid}
 use Rattle.protocol.specs.Observed.{Pinging, greeted, awaits, Sending, silent, sending, isReady, anyLapse, ends, established, dueData, lateFor, mayArrive, wrongNumber}
 use Rattle.protocol.specs.Fate.{fateOf}
 use Rattle.protocol.specs.Totals.{blankLedger, Balanced, Covers}
-use Rattle.history.specs.Log.{Call, put, turn, ping, receive, roomOf, State, Entry, next, out, run}
+use Rattle.history.specs.Log.{Call, put, turn, ping, receive, roomOf, State, called, Entry, next, out, run}
 use Rattle.history.specs.Log as log
 use Rattle.history.specs.Account.{Account, lineAfter, events, concerned, askedOf, farOf, observed, blankAccount}
 use Rattle.history.specs.Held.{accountOf}
@@ -174,9 +173,8 @@ takesInput (refused n) = false
 takesInput (violation n) = false
 
 pub record RefusedLeaves (s : State) (k : Call) : Type 0 where
-  -- below 20 nothing changes and nothing is written, so that the room stays as lent
-  pub refusal : (n : ℕ) → out s k .answer ≡ refused n
-      → (n < 20) × (next s k ≡ s) × (out s k .wrote ≡ []) × (overlaid (out s k .wrote) (roomOf k) ≡ roomOf k)
+  -- below 20 nothing changes and nothing is written, and the room stays as lent
+  pub refusal : (n : ℕ) → out s k .answer ≡ refused n → (n < 20) × (next s k ≡ s) × (out s k .wrote ≡ []) × (called s k .2 ≡ roomOf k)
   -- from 20 up only over and outcomes change, and Error, or header and Error, is written
   pub violated : (n : ℕ) → out s k .answer ≡ violation n
       → (20 ≤ n) × OnlyOver (s .connection) (next s k .connection) × (next s k .queue ≡ s .queue)
@@ -191,6 +189,20 @@ abbrev pub OverLeaves : State → Call → Type 0
 OverLeaves s k =
     s .connection .over ≡ false → next s k .connection .over ≡ true
     → OnlyOver (s .connection) (next s k .connection) × (next s k .queue ≡ s .queue)
+
+-- ---- a call is refused with 14 exactly where the state is not well formed
+
+abbrev pub Refuses14 : State → Call → Type 0
+Refuses14 s k = (out s k .answer ≡ refused 14) ↔ (wellFormed (s .connection) ≡ false)
+
+-- ---- what a call leaves of the room that it is lent, of every state
+
+-- as many bytes as it tells are written at the front, the room keeps its length, and what stands behind them is as lent
+pub record RoomBehind (s : State) (k : Call) : Type 0 where
+  pub told : called s k .0 .wrote ≡ length (out s k .wrote)
+  pub fits : length (out s k .wrote) ≤ length (roomOf k)
+  pub size : length (called s k .2) ≡ length (roomOf k)
+  pub behind : drop (length (out s k .wrote)) (called s k .2) ≡ drop (length (out s k .wrote)) (roomOf k)
 
 -- ---- each call answers the first of its checks, in 01's order, that refuses
 
