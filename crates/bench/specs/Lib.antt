@@ -1,4 +1,5 @@
--- Tables of computed rows: what a row says, the starred cases of the paper, and who may send what.
+-- Tables of computed rows: what a row says, the starred cases of the paper, who may send what, and the sizes that calls ask for.
 pub mod Row
 pub mod Table
 pub mod Senders
+pub mod Sizes
