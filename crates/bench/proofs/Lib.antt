@@ -2,3 +2,4 @@
 pub mod Rows
 pub mod Senders
 pub mod Sizes
+pub mod IllFormed

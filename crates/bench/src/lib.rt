@@ -1,2 +1,2 @@
-// No code: the starred cases of the paper in one table, who may send what and the sizes that calls ask for in two others, and the
-// claims that every row holds.
+// No code: the starred cases of the paper in one table, who may send what, the sizes that calls ask for and
+// states that are not well formed in three others, and the claims that every row holds.
