@@ -1,3 +1,5 @@
 -- The claims that every row of each table holds.
 pub mod Rows
 pub mod Senders
+pub mod Sizes
+pub mod IllFormed

@@ -1,1 +1,2 @@
-// No code: the starred cases of the paper in one table, and the claim that every row of it holds.
+// No code: the starred cases of the paper in one table, who may send what, the sizes that calls ask for and
+// states that are not well formed in three others, and the claims that every row holds.

@@ -2,3 +2,4 @@
 pub mod Tests
 pub mod Answers
 pub mod State
+pub mod Refusals

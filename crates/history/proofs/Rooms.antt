@@ -28,7 +28,7 @@ use Rattle.state.specs.declared.Connection.{Connection}
 use Rattle.protocol.specs.Slot.{slotSize, turnRoom}
 use Rattle.protocol.specs.Queue.{slot}
 use Rattle.protocol.specs.Plan.{Plan, andThen}
-use Rattle.protocol.specs.Message.{SessionMessage, Scope, whole, of-session, scope, numbered, increment-of, abort-of, close-of}
+use Rattle.protocol.specs.Message.{ConnectionMessage, no-operation-of, shutdown-of, error-of, ping-of, ping-ack-of, SessionMessage, Scope, whole, of-session, scope, numbered, increment-of, abort-of, close-of}
 use Rattle.protocol.specs.Receipt.{Taken, receipt}
 use Rattle.protocol.specs.Ask.{grantAsk, abortAsk, closeAsk, turnOf, turnAsk}
 use Rattle.protocol.specs.Connection.{otherEnd, at, roleOf, ownStart, farStart}
@@ -161,20 +161,15 @@ module _ (c : Connection) (room : ℕ) where
     header-fits r (refused n) = omega arith
     header-fits r (violation n) = breach-fits n
 
-    whole-fits : (m : Message) → Takes (λ e. Fits room (accept e)) (judgeWhole c m)
-    whole-fits (msg.NoOperation n) = nothing-fits
-    whole-fits (msg.Shutdown n) = nothing-fits
-    whole-fits (msg.Ping k) = message-fits (msg.PingAck k) (omega arith)
-    whole-fits (msg.PingAck k) = λ _. nothing-fits
-    whole-fits (msg.Error n) = nothing-fits
-    whole-fits (msg.IncrementRation t i n) = tt
-    whole-fits (msg.Abort p i n) = tt
-    whole-fits (msg.Close i) = tt
-    whole-fits (msg.Acknowledgment i) = tt
-    whole-fits (msg.Data o k e a i n) = tt
+    whole-fits : (m : Message) (w : ConnectionMessage) → Takes (λ e. Fits room (accept e)) (judgeWhole c m w)
+    whole-fits m no-operation-of = nothing-fits
+    whole-fits m shutdown-of = nothing-fits
+    whole-fits m error-of = nothing-fits
+    whole-fits m (ping-of k) = message-fits (msg.PingAck k) (omega arith)
+    whole-fits m (ping-ack-of k) = λ _. nothing-fits
 
     scope-fits : (m : Message) (z : Scope) → Fits room (judgeScope c m z)
-    scope-fits m whole = settled (Fits room) (breach c) accept (judgeWhole c m) (stops-all breach-fits (judgeWhole c m)) (whole-fits m)
+    scope-fits m (whole w) = settled (Fits room) (breach c) accept (judgeWhole c m w) (stops-all breach-fits (judgeWhole c m w)) (whole-fits m w)
     scope-fits m (of-session i x) =
         let p = receipt (roleOf (c .stage)) (ownStart c) (farStart c) (at c i) x in
         settled (Fits room) (breach c) (λ t. accept (setting-session c i (c .last) (message m (t .late)) t)) p (stops-all breach-fits p)
