@@ -1,6 +1,7 @@
 """The declarations of a crate's definitions and laws, and which of them each rests on, by the names in their texts.
 
-A name is looked up in the `use` lines of its file and among the file's own declarations. A local name that is spelled like a
+A name is looked up in the `use` lines of its file and among the file's own declarations; what a file passes on by `pub use` is
+looked up where it is declared. A local name that is spelled like a
 declaration counts as that one, so a declaration never rests on more than is said here. A contract in the code is such a text
 too, with the `ghost use` lines of its file."""
 import collections
@@ -11,7 +12,7 @@ MARKS = r"(?:(?:abbrev|unfoldable|pub) )*"
 TYPE = re.compile(r"\s*" + MARKS + r"(?:record|data) (\S+)")
 SEEN_INSIDE = re.compile(MARKS + r"(?:record|data|module) ")
 SIGNATURE = re.compile(r"\s*" + MARKS + r"((?:[^\s:=(){}]+ )*[^\s:=(){}]+)(?: \{[^}]*\})* :")
-USE = re.compile(r"^(?:ghost )?use Rattle·(\w+)(?:·\w+)?\.(specs|proofs)\.(\w+)(?:\.\{([^}]*)\}| as ([^\s;]+))?;?$", re.M)
+USE = re.compile(r"^((?:pub |ghost )?)use Rattle·(\w+)(?:·\w+)?\.(specs|proofs)\.(\w+)(?:\.\{([^}]*)\}| as ([^\s;]+))?;?$", re.M)
 NO_NAMES = {"let", "in", "where", "module", "record", "data"}
 
 
@@ -31,7 +32,7 @@ def blocks(text):
     inside a type or a module are its names too."""
     found = []
     for number, line in enumerate(text.splitlines(), 1):
-        names, margin = names_at(line), line[:1].strip() and not line.startswith(("--", "use ", "unfolding "))
+        names, margin = names_at(line), line[:1].strip() and not line.startswith(("--", "use ", "pub use ", "unfolding "))
         goes_on = found and found[-1]["names"] & set(WORDS.split(line.split("=")[0]))
         if margin and (names or SEEN_INSIDE.match(line) or not goes_on):
             found.append({"names": set(), "open": SEEN_INSIDE.match(line), "first": number, "lines": []})
@@ -56,10 +57,10 @@ class Declarations:
                 for part in block["names"]:
                     self.named[file][part].add(at)
         texts |= {str(path.relative_to(folder)): path.read_text() for path in folder.glob("src/**/*.rt")}
-        for file, text in texts.items():
-            for owner, part, module, listed, alias in USE.findall(text):
-                if owner == crate:
-                    self.take(file, f"{part}/{module}.antt", listed, alias or module)
+        uses = [(file, *use) for file, text in texts.items() for use in USE.findall(text)]
+        for file, how, owner, part, module, listed, alias in sorted(uses, key=lambda use: use[1] != "pub "):
+            if owner == crate:
+                self.take(file, f"{part}/{module}.antt", listed, alias or module)
 
     def take(self, file, source, listed, alias):
         """What a `use` line brings into a file: names, or a module under a name."""
@@ -68,9 +69,10 @@ class Declarations:
         for item in filter(None, map(str.strip, listed.split(","))):
             name, _, other = item.partition(" as ")
             for part, original in zip(spelled(other.strip() or name), spelled(name)):
-                if original not in self.named[source]:
+                here = (source, original) if original in self.named[source] else self.used[source].get(original)
+                if here is None:
                     raise ValueError(f"{file}: no declaration of {name} is found in {source}")
-                self.used[file][part] = (source, original)
+                self.used[file][part] = here
 
     def at(self, file, line):
         """The declaration at a line of a file, or None."""
