@@ -1,6 +1,6 @@
 -- receive-reads: what a receive takes is what the reader gives on its input, with the bytes used. From the rule of receive and the reader.
 use mathlib.Core.Path.{_≡_, refl, sym, ap, _∙_, subst}
-use mathlib.Core.Bool.{Bool, true, false, not, false≢true}
+use mathlib.Core.Bool.{Bool, true, false, not, true≢false, false≢true}
 use mathlib.Core.List.{List, _∷_, _++_}
 use Prim.Native.Nat.{ℕ, _≤_}
 use native.Mathlib.Omega.{arith}
@@ -24,7 +24,7 @@ use Rattle.protocol.specs.Plan.{Plan, check, settle}
 use Rattle.protocol.specs.Plan as plan
 use Rattle.protocol.specs.Connection.{otherEnd, roleOf, exchanged, wellFormed}
 use Rattle.protocol.specs.Observed.{greeted}
-use Rattle.protocol.specs.Judge.{Report, message, Decision, refuse, violate, accept, judge}
+use Rattle.protocol.specs.Judge.{Report, header-received, message, Decision, refuse, violate, accept, judge}
 use Rattle.protocol.specs.Call.{unstarted, headerTaken, messageTaken, reading, receiveGate, receiveRule}
 use Rattle.protocol.specs.Result.{extentOf}
 use Rattle.protocol.proofs.Plans.{passes, settled, stops-all, takes-all}
@@ -132,6 +132,56 @@ heard-past s k room (refuse n) h m late e = absurd (refused-not-ok e)
 heard-past s k room (violate b) h m late e = absurd (violation-not-ok e)
 heard-past s k room (accept x) h m late e = h m late (ok-same e)
 
+-- ---- a header is taken only where one is due
+
+abbrev Due : Connection → ℕ → Type 0
+Due c room = (c .over ≡ false) × (headerDue (roleOf (c .stage)) (greetingOf (c .stage)) ≡ true) × (12 ≤ room)
+
+abbrev Greets : Connection → ℕ → Decision → Type 0
+Greets c room (refuse n) = Unit {0}
+Greets c room (violate b) = Unit {0}
+Greets c room (accept e) = (far : ℕ) → e .report ≡ header-received far → Due c room
+
+due-greets : (c : Connection) (room : ℕ) → Due c room → (r : Role) (h : Result ℕ) → Greets c room (headerTaken c r h)
+due-greets c room p r (ok far) = λ k q. p
+due-greets c room p r (refused n) = tt
+due-greets c room p r (violation n) = tt
+
+told-greets : (c : Connection) (room : ℕ) (m : Message) (d : Decision) → Tells m d → Greets c room d
+told-greets c room m (refuse n) w = tt
+told-greets c room m (violate b) w = tt
+told-greets c room m (accept e) w =
+    λ far q. absurd (let p : message m (w .0) ≡ header-received far = sym (w .1) ∙ q in let z : _≡_ {A = ℕ} 0 1 = cc in omega arith)
+
+message-greets : (c : Connection) (room : ℕ) (h : Result Message) → Greets c room (messageTaken c h)
+message-greets c room (ok m) = told-greets c room m (judge c m) (judge-tells c m)
+message-greets c room (refused n) = tt
+message-greets c room (violation n) = tt
+
+header-due : (st : Stage) → exchanged st ≡ false → unstarted st ≡ false → headerDue (roleOf st) (greetingOf st) ≡ true
+header-due (stage.Fresh role.Client) e b = absurd (true≢false b)
+header-due (stage.Fresh role.Server) e b = refl
+header-due stage.Started e b = refl
+header-due (stage.Up r far) e b = absurd (true≢false e)
+
+reading-greets : (c : Connection) (input : List ℕ) (room : ℕ) (st : Stage) → c .stage ≡ st → c .over ≡ false → unstarted (c .stage) ≡ false → 12 ≤ room
+    → Greets c room (reading c input st)
+reading-greets c input room (stage.Fresh r) e live begun roomy = due-greets c room (live, header-due (c .stage) (ap exchanged e) begun, roomy) r (readConnectionHeader input)
+reading-greets c input room stage.Started e live begun roomy =
+    due-greets c room (live, header-due (c .stage) (ap exchanged e) begun, roomy) role.Client (readConnectionHeader input)
+reading-greets c input room (stage.Up r far) e live begun roomy = message-greets c room (readMessage (otherEnd r) input)
+
+receive-greets : (c : Connection) (input : List ℕ) (room : ℕ) → Greets c room (receiveRule c input room)
+unfolding receiveRule
+receive-greets c input room =
+    settled (Greets c room) refuse (λ go. reading c input (c .stage)) (receiveGate c room) (stops-all (λ n. tt) (receiveGate c room))
+    (λ _ live begun roomy. reading-greets c input room (c .stage) refl live begun (ltb-false room 12 roomy))
+
+greets-due : (s : State) (k : Call) (room : ℕ) (d : Decision) → Greets (s .connection) room d → (far : ℕ) → outBy s k d .answer ≡ ok (header-received far) → Due (s .connection) room
+greets-due s k room (refuse n) h far e = absurd (refused-not-ok e)
+greets-due s k room (violate b) h far e = absurd (violation-not-ok e)
+greets-due s k room (accept x) h far e = h far (ok-same e)
+
 -- ---- a receive that no earlier check refuses
 
 pub gate-passes : (c : Connection) (input : List ℕ) (room : ℕ) → wellFormed c ≡ true → c .over ≡ false → unstarted (c .stage) ≡ false → 12 ≤ room
@@ -176,10 +226,11 @@ module _ (s : State) (k : Call) where
 
 -- ---- of a log
 
--- the four facts about one receive
+-- the facts about one receive
 record Reads (s : Setup) (a : List Entry) (e : Entry) (input room : List ℕ) : Type 0 where
   taken : (r : Report) → e .answer ≡ ok r → Stands s input e r
   headers : Awaiting s a (length room) → e .answer ≡ headerAnswer (readConnectionHeader input)
+  awaited : (far : ℕ) → e .answer ≡ ok (header-received far) → Awaiting s a (length room)
   short : (n : ℕ) → Listening s a (length room) → readMessage (otherEnd (s .role)) input ≡ refused n → e .answer ≡ refused n
   broken : (n : ℕ) → Listening s a (length room) → readMessage (otherEnd (s .role)) input ≡ violation n → e .answer ≡ violation n
 
@@ -226,6 +277,15 @@ module _ (setup : Setup) (hh : Proper setup) (queue : List ℕ) where
             ap (λ (r : Role). headerDue r (greetingOf (log.run setup queue ks .connection .stage))) (o .role)
             ∙ sym (ap (λ (z : Line). headerDue (setup .role) (z .greeting)) (line-is ks)) ∙ w .due in
             passes-gate ks input room (w .not-over) (due-started (s .connection .stage) due) (w .roomy) ∙ due-answered s (receive input room) input (s .connection .stage) due;
+        awaited =
+            λ far q. let p = greets-due s (receive input room) (length room) (receiveRule (s .connection) input (length room)) (receive-greets (s .connection) input (length room)) far (rw out-is at q) in
+            record {
+              not-over = ap (λ (l : Line). l .over) (line-is ks) ∙ p .0;
+              due =
+                  ap (λ (l : Line). headerDue (setup .role) (l .greeting)) (line-is ks)
+                  ∙ sym (ap (λ (r : Role). headerDue r (greetingOf (log.run setup queue ks .connection .stage))) (o .role)) ∙ p .1;
+              roomy = p .2;
+            };
         short = λ n l q. not-given ks input room (refused n) l q;
         broken = λ n l q. not-given ks input room (violation n) l q;
       }
@@ -242,6 +302,7 @@ module _ (setup : Setup) (hh : Proper setup) (queue : List ℕ) where
       record {
         taken = λ a c e input room r z h q. reads-log calls a c e input room z h .taken r q;
         headers = λ a c e input room z h w. reads-log calls a c e input room z h .headers w;
+        awaited = λ a c e input room far z h q. reads-log calls a c e input room z h .awaited far q;
         short = λ a c e input room n z h l q. reads-log calls a c e input room z h .short n l q;
         broken = λ a c e input room n z h l q. reads-log calls a c e input room z h .broken n l q;
       }

@@ -281,9 +281,11 @@ Stands s input e (message m late) =
 pub record ReceiveReads (s : Setup) (log : List Entry) : Type 0 where
   pub taken : (a c : List Entry) (e : Entry) (input room : List ℕ) (r : Report) → log ≡ a ++ (e ∷ c) → e .call ≡ receive input room
       → e .answer ≡ ok r → Stands s input e r
-  -- a header is answered as it is read, and a message that is not read is refused as the reader refuses it
+  -- a header is answered as it is read, and only where one is due; a message that is not read is refused as the reader refuses it
   pub headers : (a c : List Entry) (e : Entry) (input room : List ℕ) → log ≡ a ++ (e ∷ c) → e .call ≡ receive input room
       → Awaiting s a (length room) → e .answer ≡ headerAnswer (readConnectionHeader input)
+  pub awaited : (a c : List Entry) (e : Entry) (input room : List ℕ) (far : ℕ) → log ≡ a ++ (e ∷ c) → e .call ≡ receive input room
+      → e .answer ≡ ok (header-received far) → Awaiting s a (length room)
   pub short : (a c : List Entry) (e : Entry) (input room : List ℕ) (n : ℕ) → log ≡ a ++ (e ∷ c) → e .call ≡ receive input room
       → Listening s a (length room) → readMessage (otherEnd (s .role)) input ≡ refused n → e .answer ≡ refused n
   pub broken : (a c : List Entry) (e : Entry) (input room : List ℕ) (n : ℕ) → log ≡ a ++ (e ∷ c) → e .call ≡ receive input room
