@@ -1,58 +1,33 @@
--- No two answers of the code stand for the same answer in the paper's numbers and values, and no two results for the same result.
+-- No two answers of the code stand for the same answer in the paper's numbers and values, and no two results for the same result:
+-- each is given back.
 use mathlib.Core.Path.{_≡_, refl, sym, ap, _∙_}
-use mathlib.Core.Bool.{Bool}
-use Prim.Native.Nat.{ℕ}
-use native.Mathlib.Omega.{arith}
 use Rattle.laws.specs.Result.{Result, ok, refused, violation}
-use Rattle.refusal.specs.Number.{refusalNumber, violationNumber}
-use Rattle.refusal.proofs.Distinct.{same-refusal, same-violation}
-use Rattle.wire.specs.declared.Message.{Message}
+use Rattle.refusal.proofs.Distinct.{refusalOf, refusal-back, violationOf, violation-back}
 use Rattle.state.specs.declared.Answer.{Answer}
 use Rattle.state.specs.declared.Answer.the-variants as answer
 use Rattle.state.specs.declared.Called.{Called}
 use Rattle.protocol.specs.Judge.{Report, done, served, header-received, message}
 use Rattle.protocol.specs.Result.{Given, answerAs, calledAs}
 
-never : _≡_ {A = ℕ} 0 1 → ⊥
-never z = omega arith
+-- the answer that a result stands for
+abbrev answerOf : Result Report → Answer
+answerOf (ok done) = answer.Done
+answerOf (ok (served n)) = answer.Served n
+answerOf (ok (header-received n)) = answer.Header n
+answerOf (ok (message m late)) = answer.Message m late
+answerOf (refused n) = answer.Refused (refusalOf n)
+answerOf (violation n) = answer.Violated (violationOf n)
+
+given-back : (a : Answer) → answerOf (answerAs a) ≡ a
+given-back answer.Done = refl
+given-back (answer.Served n) = refl
+given-back (answer.Header n) = refl
+given-back (answer.Message m late) = refl
+given-back (answer.Refused r) = ap answer.Refused (refusal-back r)
+given-back (answer.Violated v) = ap answer.Violated (violation-back v)
 
 pub same-answer : (a b : Answer) → answerAs a ≡ answerAs b → a ≡ b
-same-answer answer.Done answer.Done e = refl
-same-answer answer.Done (answer.Served n) e = absurd (never (cc))
-same-answer answer.Done (answer.Header n) e = absurd (never (cc))
-same-answer answer.Done (answer.Message m late) e = absurd (never (cc))
-same-answer answer.Done (answer.Refused r) e = absurd (never (cc))
-same-answer answer.Done (answer.Violated v) e = absurd (never (cc))
-same-answer (answer.Served n) answer.Done e = absurd (never (cc))
-same-answer (answer.Served n) (answer.Served k) e = cc
-same-answer (answer.Served n) (answer.Header k) e = absurd (never (cc))
-same-answer (answer.Served n) (answer.Message m late) e = absurd (never (cc))
-same-answer (answer.Served n) (answer.Refused r) e = absurd (never (cc))
-same-answer (answer.Served n) (answer.Violated v) e = absurd (never (cc))
-same-answer (answer.Header n) answer.Done e = absurd (never (cc))
-same-answer (answer.Header n) (answer.Served k) e = absurd (never (cc))
-same-answer (answer.Header n) (answer.Header k) e = cc
-same-answer (answer.Header n) (answer.Message m late) e = absurd (never (cc))
-same-answer (answer.Header n) (answer.Refused r) e = absurd (never (cc))
-same-answer (answer.Header n) (answer.Violated v) e = absurd (never (cc))
-same-answer (answer.Message m late) answer.Done e = absurd (never (cc))
-same-answer (answer.Message m late) (answer.Served k) e = absurd (never (cc))
-same-answer (answer.Message m late) (answer.Header k) e = absurd (never (cc))
-same-answer (answer.Message m late) (answer.Message m′ late′) e = cc
-same-answer (answer.Message m late) (answer.Refused r) e = absurd (never (cc))
-same-answer (answer.Message m late) (answer.Violated v) e = absurd (never (cc))
-same-answer (answer.Refused r) answer.Done e = absurd (never (cc))
-same-answer (answer.Refused r) (answer.Served k) e = absurd (never (cc))
-same-answer (answer.Refused r) (answer.Header k) e = absurd (never (cc))
-same-answer (answer.Refused r) (answer.Message m late) e = absurd (never (cc))
-same-answer (answer.Refused r) (answer.Refused r′) e = ap answer.Refused (same-refusal r r′ (cc))
-same-answer (answer.Refused r) (answer.Violated v) e = absurd (never (cc))
-same-answer (answer.Violated v) answer.Done e = absurd (never (cc))
-same-answer (answer.Violated v) (answer.Served k) e = absurd (never (cc))
-same-answer (answer.Violated v) (answer.Header k) e = absurd (never (cc))
-same-answer (answer.Violated v) (answer.Message m late) e = absurd (never (cc))
-same-answer (answer.Violated v) (answer.Refused r) e = absurd (never (cc))
-same-answer (answer.Violated v) (answer.Violated v′) e = ap answer.Violated (same-violation v v′ (cc))
+same-answer a b e = sym (given-back a) ∙ ap answerOf e ∙ given-back b
 
 called-path : {x y : Called} → x .connection ≡ y .connection → x .answer ≡ y .answer → x .used ≡ y .used → x .wrote ≡ y .wrote → x .start ≡ y .start
     → x .end ≡ y .end → x ≡ y

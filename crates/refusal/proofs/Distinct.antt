@@ -45,8 +45,16 @@ given-back refusal.BadValue = refl
 given-back refusal.PingOutstanding = refl
 given-back refusal.IllFormed = refl
 
+-- the refusal that a number stands for
+pub refusalOf : ℕ → Refusal
+refusalOf n = getD refusals n refusal.NotExchanged
+
+pub refusal-back : (r : Refusal) → refusalOf (refusalNumber r) ≡ r
+unfolding refusalOf
+refusal-back r = given-back r
+
 pub same-refusal : (a b : Refusal) → refusalNumber a ≡ refusalNumber b → a ≡ b
-same-refusal a b e = sym (given-back a) ∙ ap (λ (n : ℕ). getD refusals n refusal.NotExchanged) e ∙ given-back b
+same-refusal a b e = sym (refusal-back a) ∙ ap refusalOf e ∙ refusal-back b
 
 -- the violation of each number from 20 on
 violations : List Violation
@@ -62,8 +70,12 @@ violations =
     ∷ violation.UnaskedPingAck
     ∷ []
 
-violation-back : (v : Violation) → getD violations (violationNumber v - 20) violation.UnknownType ≡ v
-unfolding violations
+-- the violation that a number stands for
+pub violationOf : ℕ → Violation
+violationOf n = getD violations (n - 20) violation.UnknownType
+
+pub violation-back : (v : Violation) → violationOf (violationNumber v) ≡ v
+unfolding violations violationOf
 violation-back violation.UnknownType = refl
 violation-back violation.ReservedBit = refl
 violation-back violation.BadHeader = refl
@@ -75,4 +87,4 @@ violation-back violation.PastLargest = refl
 violation-back violation.UnaskedPingAck = refl
 
 pub same-violation : (a b : Violation) → violationNumber a ≡ violationNumber b → a ≡ b
-same-violation a b e = sym (violation-back a) ∙ ap (λ (n : ℕ). getD violations (n - 20) violation.UnknownType) e ∙ violation-back b
+same-violation a b e = sym (violation-back a) ∙ ap violationOf e ∙ violation-back b
