@@ -6,13 +6,12 @@ use Prim.Native.Nat.{ℕ, _<_}
 use native.Mathlib.Omega.{arith}
 use lib.ListN.{length, take}
 use Rattle.laws.specs.Circle.{nearest}
-use Rattle.laws.specs.Runs.{run}
+use Rattle.laws.specs.Runs.{run, gather}
 use Rattle.laws.specs.Result.{ok, refused}
 use Rattle.laws.proofs.Circle.{nearest-lt, nearest-found, nearest-same}
 use Rattle.laws.proofs.Results.{ok-same, refused-same, refused-not-ok}
 use Rattle.laws.proofs.Tests.{true-false}
 use Rattle.wire.specs.Message as wire
-use Rattle.wire.specs.Message.{readMessage}
 use Rattle.state.specs.declared.Setup.{Setup}
 use Rattle.protocol.specs.Queue.{slot}
 use Rattle.protocol.specs.Message.{numbered}
@@ -27,6 +26,7 @@ use Rattle.protocol.proofs.Views.{greeted-is, ready-look}
 use Rattle.history.specs.Log.{Call, start, open-session, put, finish, turn, grant, abort, close, shutdown, lost, receive, State, Entry, next, out, made, Proper}
 use Rattle.history.specs.Log as log
 use Rattle.history.proofs.Decisions.{decide, payloadOf, nextBy, outBy, next-is, out-is}
+use Rattle.history.specs.Written.{allWritten}
 use Rattle.history.specs.Account.{Line, Account, observed}
 use Rattle.history.specs.Claims.{ready, dataNumber, dataWritten, lastServed, waitingBytes, Serves, MayTurn, NothingReady, Turns, BoundedWaiting}
 use Rattle.history.proofs.Good.{isTurn, Ok, setupOf, lineOf, holds, one}
@@ -57,7 +57,7 @@ module _ (s : State) (k : Call) where
   quiet-by : (d : Decision) → GoodBy s k d → isTurn k ≡ false → dataWritten (setupOf (s .connection)) (outBy s k d) ≡ []
   quiet-by (refuse n) g h = nothing-data (setupOf (s .connection) .role)
   quiet-by (violate b) g h =
-      ap (λ (os : List Output). dataNumber (readMessage (setupOf (s .connection) .role) (bytesOfAll (payloadOf (s .queue) k (violate b)) os))) (g .0)
+      ap (λ (os : List Output). gather dataNumber (allWritten (setupOf (s .connection) .role) (bytesOfAll (payloadOf (s .queue) k (violate b)) os))) (g .0)
       ∙ error-data (setupOf (s .connection) .role) (payloadOf (s .queue) k (violate b)) (s .connection .stage) (s .connection .own)
   quiet-by (accept e) g h = g .by-turn ∙ ap (λ (b : Bool). one b (e .number)) h
 

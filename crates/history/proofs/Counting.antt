@@ -6,12 +6,11 @@ use Prim.Native.Nat.{ℕ, _<_}
 use native.Mathlib.Omega.{arith}
 use lib.ListN.{take, drop}
 use Rattle.laws.specs.Result.{ok}
-use Rattle.laws.specs.Runs.{fold}
+use Rattle.laws.specs.Runs.{fold, gather}
 use Rattle.laws.proofs.Results.{ok-same, refused-not-ok, violation-not-ok}
 use Rattle.ration.specs.declared.Ration.{Ration}
 use Rattle.ration.specs.Ration.{fromHeader}
 use Rattle.wire.specs.declared.Message.the-variants as msg
-use Rattle.wire.specs.Message.{readMessage}
 use Rattle.state.specs.declared.Side.{Side}
 use Rattle.state.specs.declared.Side.the-variants as side
 use Rattle.state.specs.declared.Before.the-variants as before
@@ -22,7 +21,7 @@ use Rattle.state.specs.declared.Setup.{Setup}
 use Rattle.protocol.specs.Queue.{slot}
 use Rattle.protocol.specs.Message.{data-of, scope}
 use Rattle.protocol.specs.Connection.{at, roleOf, farStart}
-use Rattle.protocol.specs.Judge.{message, Output, Effect, Decision, refuse, violate, accept}
+use Rattle.protocol.specs.Judge.{message, Output, sent, Effect, Decision, refuse, violate, accept}
 use Rattle.protocol.specs.Result.{bytesOfAll}
 use Rattle.protocol.specs.Observed.{Event, received, wrote, Sending, silent, sending, Ends, unused, ends, Seen, established, unfinished, mayArrive, lateFor}
 use Rattle.protocol.specs.Totals.{blankLedger, Balanced, Covers, Totals, addUp}
@@ -33,9 +32,11 @@ use Rattle.protocol.proofs.Streams.{Flows, Fair, eof-flows}
 use Rattle.history.specs.Log.{Call, State, Entry, out, Proper}
 use Rattle.history.specs.Log as log
 use Rattle.history.proofs.Decisions.{decide, payloadOf, outBy, out-is}
-use Rattle.history.specs.Account.{Account, only, events, reported, reportedOf, farOf, observed, writtenMessage}
+use Rattle.history.specs.Written.{allWritten}
+use Rattle.history.specs.Account.{Account, only, events, reported, reportedOf, farOf, observed, outputSeen}
 use Rattle.history.specs.Sums.{Sum, blankSum, sumAfter, summed}
 use Rattle.history.specs.Claims.{dataNumber, lateOf, RationLedger, PutStream}
+use Rattle.history.proofs.InOrder.{reads-alone}
 use Rattle.history.proofs.Good.{isTurn, Good, setupOf, lineOf, holds, ownOf, one}
 use Rattle.history.proofs.Written.{only-own}
 use Rattle.history.proofs.Receives.{GoodBy}
@@ -95,11 +96,22 @@ module _ (own far : Ration) (x : Session) (sl : List ℕ) (t : Totals) (q : t .s
 none-some : {n : ℕ} {A : Type 0} → _≡_ {A = List ℕ} [] (n ∷ []) → A
 none-some e = absurd (let z : _≡_ {A = ℕ} 0 1 = cc in omega arith)
 
+-- a Data message among outputs has its number among theirs
+some-data : (before after : List Output) (b close eof ack : Bool) (n size : ℕ) → gather dataNumber (before ++ (sent (msg.Data b close eof ack n size) ∷ after)) ≡ [] → ⊥
+unfolding gather
+some-data [] after b close eof ack n size e = let z : _≡_ {A = ℕ} 0 1 = cc in omega arith
+some-data (o ∷ before) after b close eof ack n size e = some-data before after b close eof ack n size (rest (dataNumber o) _ e)
+  where
+    rest : (x y : List ℕ) → x ++ y ≡ [] → y ≡ []
+    rest [] y e = e
+    rest (i ∷ x) y e = absurd (let z : _≡_ {A = ℕ} 0 1 = cc in omega arith)
+
 module _ (s : State) (k : Call) (n : ℕ) where
   -- a Data message that is written is a turn's, alone, and may be written then
   abbrev WritesData : Setup → Decision → Type 0
   WritesData z d =
-      (b close eof ack : Bool) (size : ℕ) → readMessage (z .role) (outBy s k d .wrote) ≡ ok (msg.Data b close eof ack n size)
+      (before after : List Output) (b close eof ack : Bool) (size : ℕ)
+      → allWritten (z .role) (outBy s k d .wrote) ≡ before ++ (sent (msg.Data b close eof ack n size) ∷ after)
       → (events (z .role) n (outBy s k d) ≡ wrote (data-of size b close eof ack) ∷ [])
       × Writes (z .role) (farStart (s .connection)) (drop 4 (outBy s k d .wrote)) (holds s n) (data-of size b close eof ack)
 
@@ -115,12 +127,16 @@ module _ (s : State) (k : Call) (n : ℕ) where
     is-turn false z p = none-some p
 
     writes-data : WritesData (setupOf (s .connection)) (accept e)
-    writes-data b close eof ack size q =
-        let w = is-turn (isTurn k) refl (sym (g .by-turn) ∙ ap dataNumber q) in
+    unfolding gather
+    writes-data before after b close eof ack size q =
+        let r = roleOf (s .connection .stage) in
+        let bytes = outBy s k (accept e) .wrote in
+        let alone = reads-alone r k bytes (e .outs) before after (sent (msg.Data b close eof ack n size)) (g .reads) (g .single) q in
+        let w = is-turn (isTurn k) refl (sym (g .by-turn) ∙ ap (gather dataNumber) alone) in
         let x : Event = wrote (data-of size b close eof ack) in
         let read : events (roleOf (s .connection .stage)) (e .number) (outBy s k (accept e)) ≡ wrote (data-of size b close eof ack) ∷ [] =
-        ap (λ (l : List Event). l ++ writtenMessage (e .number) (readMessage (roleOf (s .connection .stage)) (outBy s k (accept e) .wrote))) (g .untold (w .0))
-        ∙ ap (writtenMessage (e .number)) q ∙ ap (λ (i : ℕ). only i n x) (w .1) ∙ only-own n x in
+        ap (λ (l : List Event). l ++ gather (outputSeen (e .number)) (allWritten r bytes)) (g .untold (w .0))
+        ∙ ap (gather (outputSeen (e .number))) alone ∙ ap (λ (i : ℕ). only i n x ++ []) (w .1) ∙ ap (λ (l : List Event). l ++ []) (only-own n x) in
         let legal =
         subst (λ (es : List Event). AllLegal (roleOf (s .connection .stage)) (ownOf (setupOf (s .connection))) (farStart (s .connection)) (drop 4 (outBy s k (accept e) .wrote)) (holds s (e .number)) es) read (g .legal) in (
           subst (λ (i : ℕ). events (roleOf (s .connection .stage)) i (outBy s k (accept e)) ≡ wrote (data-of size b close eof ack) ∷ []) (w .1) read,
@@ -136,17 +152,18 @@ module _ (s : State) (k : Call) (n : ℕ) where
         ap (reported (e .number) k) rep ∙ ap (λ (i : ℕ). only i n x) (sym num) ∙ only-own n x in
         let legal =
         subst (λ (es : List Event). AllLegal (roleOf (s .connection .stage)) (ownOf (setupOf (s .connection))) (farStart (s .connection)) (drop 4 (outBy s k (accept e) .wrote)) (holds s (e .number))
-        (es ++ writtenMessage (e .number) (readMessage (roleOf (s .connection .stage)) (outBy s k (accept e) .wrote)))) told (g .legal) in
+        (es ++ gather (outputSeen (e .number)) (allWritten (roleOf (s .connection .stage)) (outBy s k (accept e) .wrote)))) told (g .legal) in
         subst (λ (i : ℕ). mayArrive (roleOf (s .connection .stage)) (ownOf (setupOf (s .connection))) (holds s i) (data-of size b close eof ack) ≡ true) (sym num) (legal .0)
 
   writes-by : (d : Decision) → GoodBy s k d → WritesData (setupOf (s .connection)) d
-  writes-by (refuse j) g b close eof ack size q = none-some (sym (nothing-data (roleOf (s .connection .stage))) ∙ ap dataNumber q)
-  writes-by (violate x) g b close eof ack size q =
+  writes-by (refuse j) g before after b close eof ack size q =
+      absurd (some-data before after b close eof ack n size (sym (ap (gather dataNumber) q) ∙ nothing-data (roleOf (s .connection .stage))))
+  writes-by (violate x) g before after b close eof ack size q =
       let r = roleOf (s .connection .stage) in
       let p = payloadOf (s .queue) k (violate x) in
-      none-some
-      (sym (ap (λ (os : List Output). dataNumber (readMessage r (bytesOfAll p os))) (g .0) ∙ error-data r p (s .connection .stage) (s .connection .own)) ∙ ap dataNumber q)
-  writes-by (accept e) g b close eof ack size q = writes-data e g b close eof ack size q
+      absurd (some-data before after b close eof ack n size
+      (sym (ap (gather dataNumber) q) ∙ ap (λ (os : List Output). gather dataNumber (allWritten r (bytesOfAll p os))) (g .0) ∙ error-data r p (s .connection .stage) (s .connection .own)))
+  writes-by (accept e) g before after b close eof ack size q = writes-data e g before after b close eof ack size q
 
   takes-by : (d : Decision) → GoodBy s k d → TakesData (setupOf (s .connection)) d
   takes-by (refuse j) g b close eof ack late size q = absurd (refused-not-ok q)
@@ -197,17 +214,18 @@ module _ (setup : Setup) (hh : Proper setup) (queue : List ℕ) (n : ℕ) (h : n
         subst (λ (v : Seen). Flows (v .sends) (summed setup n (log.log setup queue ks) .totals .put) (summed setup n (log.log setup queue ks) .totals .payloads)) (tracked .seen) (tracked .fair .flows)
 
     -- one entry more
-    flows-whole : (b close ack : Bool) (size : ℕ) → readMessage (setup .role) (out (log.run setup queue ks) k .wrote) ≡ ok (msg.Data b close true ack n size)
+    flows-whole : (before after : List Output) (b close ack : Bool) (size : ℕ)
+        → allWritten (setup .role) (out (log.run setup queue ks) k .wrote) ≡ before ++ (sent (msg.Data b close true ack n size) ∷ after)
         → sumAfter setup n (summed setup n (log.log setup queue ks)) (out (log.run setup queue ks) k) .totals .payloads
         ≡ sumAfter setup n (summed setup n (log.log setup queue ks)) (out (log.run setup queue ks) k) .totals .put
     unfolding sumAfter fold
-    flows-whole b close ack size =
+    flows-whole before after b close ack size =
         rw out-is
         (λ q. let s = log.run setup queue ks in
         let z = summed setup n (log.log setup queue ks) in
         let d = decide (s .connection) (s .queue) k in
         let p = drop 4 (outBy s k d .wrote) in
-        let w = writes-here b close true ack size q in
+        let w = writes-here before after b close true ack size q in
         let add : Totals → Event → Totals = addUp (ownOf setup) (farOf (z .line)) p in
         ap (λ (es : List Event). fold add (z .totals) es .payloads) (w .0)
         ∙ eof-flows (setup .role) (ownOf setup) (farStart (s .connection)) p size b close ack (holds s n .sends) (z .totals .put) (z .totals .payloads) (w .1 .bears) flows-here
@@ -215,12 +233,14 @@ module _ (setup : Setup) (hh : Proper setup) (queue : List ℕ) (n : ℕ) (h : n
 
   -- the facts about one entry
   record Counted (a : List Entry) (e : Entry) : Type 0 where
-    written : (b close eof ack : Bool) (size : ℕ) → readMessage (setup .role) (e .wrote) ≡ ok (msg.Data b close eof ack n size)
+    written : (before after : List Output) (b close eof ack : Bool) (size : ℕ)
+        → allWritten (setup .role) (e .wrote) ≡ before ++ (sent (msg.Data b close eof ack n size) ∷ after)
         → Covers (farOf (observed setup n a .line)) (summed setup n a .totals .sending) size
     begun : (close eof ack late : Bool) (size : ℕ) → e .answer ≡ ok (message (msg.Data true close eof ack n size) late) → Covers (fromHeader (setup .header)) blankLedger size
     taken : (close eof ack late : Bool) (size : ℕ) → e .answer ≡ ok (message (msg.Data false close eof ack n size) late)
         → lateOf setup a (scope (msg.Data false close eof ack n size)) ≡ false → Covers (fromHeader (setup .header)) (summed setup n a .totals .receiving) size
-    whole : (b close ack : Bool) (size : ℕ) → readMessage (setup .role) (e .wrote) ≡ ok (msg.Data b close true ack n size)
+    whole : (before after : List Output) (b close ack : Bool) (size : ℕ)
+        → allWritten (setup .role) (e .wrote) ≡ before ++ (sent (msg.Data b close true ack n size) ∷ after)
         → sumAfter setup n (summed setup n a) e .totals .payloads ≡ sumAfter setup n (summed setup n a) e .totals .put
 
   counted-calls : (ks : List Call) (k : Call) → Counted (log.log setup queue ks) (out (log.run setup queue ks) k)
@@ -232,8 +252,8 @@ module _ (setup : Setup) (hh : Proper setup) (queue : List ℕ) (n : ℕ) (h : n
       let p = drop 4 (outBy s k (decide (s .connection) (s .queue) k) .wrote) in
       record {
         written =
-            λ b close eof ack size q. subst (λ (r : Ration). Covers r (z .totals .sending) size) (sym (ap farOf (line-is ks k) ∙ start-told (s .connection .stage)))
-            (out-covers (setup .role) (ownOf setup) far p b close eof ack size (v .standing) (v .sends) (v .inbound) (z .totals .sending) (writes-here ks k b close eof ack size (rw out-is at q) .1) (out-here ks k));
+            λ before after b close eof ack size q. subst (λ (r : Ration). Covers r (z .totals .sending) size) (sym (ap farOf (line-is ks k) ∙ start-told (s .connection .stage)))
+            (out-covers (setup .role) (ownOf setup) far p b close eof ack size (v .standing) (v .sends) (v .inbound) (z .totals .sending) (writes-here ks k before after b close eof ack size (rw out-is at q) .1) (out-here ks k));
         begun = λ close eof ack late size q. open-covers (setup .role) (ownOf setup) far p close eof ack size v (takes-here ks k true close eof ack late size (rw out-is at q));
         taken =
             λ close eof ack late size q l. in-covers (setup .role) (ownOf setup) far p close eof ack size (v .standing) (v .sends) (v .inbound) (z .totals .receiving)
@@ -267,7 +287,7 @@ module _ (setup : Setup) (hh : Proper setup) (queue : List ℕ) (n : ℕ) (h : n
             λ t e. subst (λ (r : Ration). Balanced r (z .totals .sending) (x .outbound)) (sym (ap (λ (a : Account). farOf (a .line)) told ∙ start-told (s .connection .stage)))
             (out-balance (ownOf setup) far x (slot n (s .queue)) (z .totals) (w .seen) (w .fair) (ap sendsOn (sym stands ∙ e)));
         inbound = λ o q e. in-balance (ownOf setup) far x (slot n (s .queue)) (z .totals) (w .seen) (w .fair) o q (sym stands ∙ e);
-        written = λ a c e b close eof ack size l q. counted calls a c e l .written b close eof ack size q;
+        written = λ a c e before after b close eof ack size l q. counted calls a c e l .written before after b close eof ack size q;
         begun = λ a c e close eof ack late size l q. counted calls a c e l .begun close eof ack late size q;
         taken = λ a c e close eof ack late size l q f. counted calls a c e l .taken close eof ack late size q f;
       }
@@ -283,6 +303,6 @@ module _ (setup : Setup) (hh : Proper setup) (queue : List ℕ) (n : ℕ) (h : n
             λ u bytes r end e. flow-kept (ownOf setup) (farStart (s .connection)) (at (s .connection) n) (slot n (s .queue)) (z .totals) (w .seen) (w .fair)
             (ap sendsAny (sym (ap (λ (a : Account). a .seen .sends) told) ∙ e));
         whole =
-            λ a c e b close ack size l q. ap (λ (y : Sum). y .totals .payloads) (sum-last a e) ∙ counted calls a c e l .whole b close ack size q
+            λ a c e before after b close ack size l q. ap (λ (y : Sum). y .totals .payloads) (sum-last a e) ∙ counted calls a c e l .whole before after b close ack size q
             ∙ sym (ap (λ (y : Sum). y .totals .put) (sum-last a e));
       }

@@ -14,6 +14,7 @@ use Rattle.laws.proofs.Tests.{and-first, and-second, and-both, not-true, or-fir
 use Rattle.wire.specs.declared.Role.{Role}
 use Rattle.wire.specs.FirstByte.{kindOf}
 use Rattle.wire.specs.Message.{readMessage, parseHeader, typed, allowed}
+use Rattle.wire.specs.Connection.{parseConnectionHeader, readConnectionHeader}
 use Rattle.state.specs.declared.Stage.{Stage}
 use Rattle.state.specs.declared.Stage.the-variants as stage
 use Rattle.state.specs.declared.Setup.{Setup}
@@ -26,6 +27,7 @@ use Rattle.protocol.proofs.Views.{look}
 use Rattle.history.specs.Log.{Call, State, Entry, next, out, made, Proper}
 use Rattle.history.specs.Log as log
 use Rattle.history.proofs.Decisions.{decide, payloadOf, nextBy, outBy, next-is, out-is}
+use Rattle.history.specs.Written.{writtenUpTo, allWritten}
 use Rattle.history.specs.Account.{Account, events}
 use Rattle.history.specs.Claims.{ready, dataNumber, dataWritten, has, isOver, lapse, waitsOn, Waits}
 use Rattle.history.proofs.Good.{Ok, setupOf, ownOf, holds, readyAt}
@@ -35,12 +37,12 @@ use Rattle.history.proofs.Simulation.{decide-good, base, queue-refused,
 
 -- ---- what is written by a call that is not taken
 
-pub nothing-data : (r : Role) → dataNumber (readMessage r []) ≡ []
-unfolding readMessage pick
+pub nothing-data : (r : Role) → gather dataNumber (allWritten r []) ≡ []
+unfolding gather writtenUpTo
 nothing-data r = refl
 
-pub error-data : (r : Role) (payload : List ℕ) (st : Stage) (own : ℕ) → dataNumber (readMessage r (bytesOfAll payload (errorAfter st own))) ≡ []
-unfolding bytesOfAll readMessage parseHeader typed allowed kindOf pick
+pub error-data : (r : Role) (payload : List ℕ) (st : Stage) (own : ℕ) → gather dataNumber (allWritten r (bytesOfAll payload (errorAfter st own))) ≡ []
+unfolding gather bytesOfAll writtenUpTo readMessage readConnectionHeader parseConnectionHeader parseHeader typed allowed kindOf pick
 error-data r payload (stage.Fresh q) own = refl
 error-data r payload stage.Started own = refl
 error-data r payload (stage.Up q far) own = refl
@@ -66,7 +68,7 @@ module _ (s : State) (o : Ok (setupOf (s .connection)) s) (k : Call) where
       → Move (readyAt s) (s .connection .last) (nextBy s k d .connection .last) (dataWritten (setupOf (s .connection)) (outBy s k d))
   moves-by (refuse n) g = still (nothing-data (setupOf (s .connection) .role)) refl
   moves-by (violate b) g =
-      still (ap (λ (os : List Output). dataNumber (readMessage (setupOf (s .connection) .role) (bytesOfAll (payloadOf (s .queue) k (violate b)) os))) (g .0)
+      still (ap (λ (os : List Output). gather dataNumber (allWritten (setupOf (s .connection) .role) (bytesOfAll (payloadOf (s .queue) k (violate b)) os))) (g .0)
       ∙ error-data (setupOf (s .connection) .role) (payloadOf (s .queue) k (violate b)) (s .connection .stage) (s .connection .own)) refl
   moves-by (accept e) g =
       subst (λ (m : ℕ). Move (readyAt s) (s .connection .last) m (dataWritten (setupOf (s .connection)) (outBy s k (accept e)))) (sym (marked (e .ending) e)) (g .moves)

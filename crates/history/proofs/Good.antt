@@ -28,9 +28,10 @@ use Rattle.protocol.proofs.Legal.{AllLegal}
 use Rattle.history.specs.Log.{Call, start, open-session, put, finish, turn, grant, abort, close, shutdown, lost, receive, State, Proper}
 use Rattle.history.specs.Log as log
 use Rattle.history.proofs.Decisions.{queueAfter, payloadOf, outBy}
+use Rattle.history.proofs.InOrder.{Reads}
 use Rattle.history.specs.Account.{Line, lineAfter, events, reported, reportedOf, Account}
 use Rattle.history.specs.Fates.{endTold}
-use Rattle.history.specs.Meant.{meantFor, meantOfAll, meantBy, ReadInOrder, mayGo}
+use Rattle.history.specs.Meant.{meantFor, meantOfAll, meantBy, mayGo}
 use Rattle.history.specs.Claims.{dataWritten, has}
 pub use Rattle.history.specs.Held.{lineOf, holds, accountOf}
 
@@ -62,10 +63,6 @@ isTurn (log.ping cookie room) = false
 isTurn (shutdown room) = false
 isTurn lost = false
 isTurn (receive input room) = false
-
--- a call that is a ping has a cookie of 16 bits
-abbrev pub CookieFits : Call → Type 0
-CookieFits k = (cookie : ℕ) (room : List ℕ) → k ≡ log.ping cookie room → cookie < 65_536
 
 -- ---- what every state of a run keeps
 
@@ -122,7 +119,9 @@ pub record Good (setup : Setup) (s : State) (k : Call) (e : Effect) : Type 0 whe
   pub live : s .connection .over ≡ false
   pub concerns : reportedOf k (e .report) ≡ e .number
   pub means : e .outs ≡ meantBy setup (accountOf s (e .number)) k (ok (e .report))
-  pub reads : CookieFits k → ReadInOrder (setup .role) (outBy s k (accept e) .wrote) (e .outs)
+  pub reads : Reads (setup .role) k (outBy s k (accept e) .wrote) (e .outs)
+  -- one connection header or one message at most
+  pub single : length (e .outs) ≤ 1
   pub allowed : Every (mayGo setup (accountOf s (e .number)) (outBy s k (accept e))) (e .outs)
   pub legal : AllLegal (setup .role) (ownOf setup) (farStart (s .connection)) (drop 4 (outBy s k (accept e) .wrote)) (holds s (e .number))
       (events (setup .role) (e .number) (outBy s k (accept e)))

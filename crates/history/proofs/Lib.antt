@@ -1,5 +1,6 @@
 -- The claims over every log, and what they stand on.
 pub mod Decisions
+pub mod InOrder
 pub mod Written
 pub mod Good
 pub mod Sessions

@@ -6,17 +6,19 @@ use mathlib.Core.List.{List, [], _∷_, _++_}
 use Prim.Native.Nat.{ℕ, _≤_, _<_}
 use native.Mathlib.Omega.{arith}
 use lib.ListN.{length, take, drop}
+use lib.Dec.{ltb}
+use borrow.Author.Tests.{ltb-true, ltb-false}
 use Rattle.laws.specs.Pick.{pick}
-use Rattle.laws.specs.Result.{Result, ok, refused, violation}
-use Rattle.laws.specs.Runs.{fold, Every}
+use Rattle.laws.specs.Result.{ok}
+use Rattle.laws.specs.Runs.{fold, Every, gather}
 use Rattle.laws.proofs.Tests.{true-false, and-both, not-false}
 use Rattle.ration.specs.declared.Ration.{Ration}
 use Rattle.wire.specs.declared.Role.{Role}
 use Rattle.wire.specs.declared.Role.the-variants as role
-use Rattle.wire.specs.declared.Message.{Message}
 use Rattle.wire.specs.declared.Message.the-variants as msg
 use Rattle.wire.specs.FirstByte.{kindOf}
 use Rattle.wire.specs.Message.{isClient, isServer, readMessage, parseHeader, typed, allowed}
+use Rattle.wire.specs.Connection.{readConnectionHeader}
 use Rattle.state.specs.declared.Sides.{Sides}
 use Rattle.state.specs.declared.Sides.the-variants as sides
 use Rattle.state.specs.declared.Session.{Session}
@@ -39,52 +41,61 @@ use Rattle.protocol.proofs.Views.{greetingOf, greeted-is, sendsOf, look, seen-p
 use Rattle.history.specs.Log.{Call, start, shutdown, lost, State}
 use Rattle.history.specs.Log as log
 use Rattle.history.proofs.Decisions.{queueAfter, outBy}
-use Rattle.history.specs.Account.{lineAfter, events, reported, reportedOf, writtenMessage, inScope}
+use Rattle.history.specs.Written.{writtenUpTo, allWritten}
+use Rattle.history.specs.Account.{lineAfter, events, reported, reportedOf, outputSeen}
 use Rattle.history.specs.Fates.{endTold}
-use Rattle.history.specs.Meant.{ungreeted, meantBy, ReadInOrder, mayGo}
-use Rattle.history.proofs.Good.{isTurn, CookieFits, Ok, Good, endedAs, setupOf, lineOf, holds, accountOf, ownOf, farBy, one}
-use Rattle.history.proofs.Written.{Sendable, sent-read, sent-read-back, opening-read-back, nothing-read-back, nothing-read, only-own}
+use Rattle.history.specs.Meant.{ungreeted, meantBy, mayGo}
+use Rattle.history.proofs.InOrder.{Reads, in-order, other-cookie, reads-seen, reads-data}
+use Rattle.history.proofs.Good.{isTurn, Ok, Good, endedAs, setupOf, lineOf, holds, accountOf, ownOf, farBy, one}
+use Rattle.history.proofs.Written.{Sendable, sent-read-back, opening-read-back, nothing-read-back}
 use Rattle.history.specs.Claims.{dataNumber, dataWritten}
 use Rattle.laws.proofs.Runs.{still}
 
 -- ---- what is written is of no session
 
--- a connection header is no message
-pub header-no-message : (r : Role) (payload : List ℕ) (own n : ℕ) → writtenMessage n (readMessage r (bytesOfAll payload (header-out own ∷ []))) ≡ []
-unfolding bytesOfAll readMessage parseHeader typed kindOf pick
-header-no-message r payload own n = refl
+-- a connection header, a message of the connection as a whole, or nothing
+abbrev pub OfLine : List Output → Type 0
+OfLine [] = Unit {0}
+OfLine (header-out n ∷ []) = Unit {0}
+OfLine (sent m ∷ []) = (w : ConnectionMessage) × (scope m ≡ whole w)
+OfLine (o ∷ p ∷ outs) = ⊥
 
-pub whole-no-event : (r : Role) (payload : List ℕ) (m : Message) (n : ℕ) {w : ConnectionMessage} → Sendable r m payload → scope m ≡ whole w
-    → writtenMessage n (readMessage r (bytesOfAll payload (sent m ∷ []))) ≡ []
-whole-no-event r payload m n w e = ap (writtenMessage n) (sent-read r m payload w) ∙ ap (inScope n _) e
+line-seen : (n : ℕ) (outs : List Output) → OfLine outs → gather (outputSeen n) outs ≡ []
+unfolding gather
+line-seen n [] h = refl
+line-seen n (header-out own ∷ []) h = refl
+line-seen n (sent m ∷ []) h = rw (h .1)
+line-seen n (o ∷ p ∷ outs) h = absurd h
 
--- a Ping is of no session, whatever its cookie
-ping-no-event : (r : Role) (cookie n : ℕ) → writtenMessage n (readMessage r (bytesOfAll [] (sent (msg.Ping cookie) ∷ []))) ≡ []
-unfolding bytesOfAll readMessage parseHeader typed allowed kindOf pick
-ping-no-event r cookie n = refl
+line-data : (outs : List Output) → OfLine outs → gather dataNumber outs ≡ []
+unfolding gather
+line-data [] h = refl
+line-data (header-out own ∷ []) h = refl
+line-data (sent m ∷ []) h = rw (h .1)
+line-data (o ∷ p ∷ outs) h = absurd h
 
-append-empty : (a b : List Event) → a ++ b ≡ [] → b ≡ []
-append-empty [] b e = e
-append-empty (x ∷ a) b e = absurd (let z : _≡_ {A = ℕ} 0 1 = cc in omega arith)
+line-single : (outs : List Output) → OfLine outs → length outs ≤ 1
+line-single [] h = omega arith
+line-single (header-out own ∷ []) h = omega arith
+line-single (sent m ∷ []) h = omega arith
+line-single (o ∷ p ∷ outs) h = absurd h
 
-pub append-first : (a b : List Event) → a ++ b ≡ [] → a ≡ []
-append-first [] b e = refl
-append-first (x ∷ a) b e = absurd (let z : _≡_ {A = ℕ} 0 1 = cc in omega arith)
+-- a Ping stands alone, whatever its cookie
+ping-alone : (r : Role) (cookie : ℕ) → (told : ℕ) × (allWritten r (bytesOfAll [] (sent (msg.Ping cookie) ∷ [])) ≡ sent (msg.Ping told) ∷ [])
+unfolding bytesOfAll writtenUpTo readMessage readConnectionHeader parseHeader typed allowed kindOf pick
+ping-alone r cookie = (_, refl)
 
--- what no session sees is no Data message
-no-data : (r : Result Message) → ((n : ℕ) → writtenMessage n r ≡ []) → dataNumber r ≡ []
-no-data (ok (msg.NoOperation n)) h = refl
-no-data (ok (msg.Shutdown n)) h = refl
-no-data (ok (msg.Ping k)) h = refl
-no-data (ok (msg.PingAck k)) h = refl
-no-data (ok (msg.Error n)) h = refl
-no-data (ok (msg.IncrementRation t i n)) h = refl
-no-data (ok (msg.Abort p i n)) h = refl
-no-data (ok (msg.Close i)) h = refl
-no-data (ok (msg.Acknowledgment i)) h = refl
-no-data (ok (msg.Data b c e a i n)) h = absurd (let p = sym (only-own i _) ∙ h i in let z : _≡_ {A = ℕ} 0 1 = cc in omega arith)
-no-data (refused n) h = refl
-no-data (violation n) h = refl
+ping-reads : (r : Role) (cookie : ℕ) (room : List ℕ) → Reads r (log.ping cookie room) (bytesOfAll [] (sent (msg.Ping cookie) ∷ [])) (sent (msg.Ping cookie) ∷ [])
+ping-reads r cookie room = go (ltb cookie 65_536) refl
+  where
+    go : (b : Bool) → ltb cookie 65_536 ≡ b → Reads r (log.ping cookie room) (bytesOfAll [] (sent (msg.Ping cookie) ∷ [])) (sent (msg.Ping cookie) ∷ [])
+    go true e =
+        in-order
+        (sent-read-back r (msg.Ping cookie) []
+        (record { shift = omega arith; session = omega arith; number = ltb-true _ _ e; sender = refl; flags = refl; body = omega arith }))
+    go false e =
+        let large : 65_536 ≤ cookie = ltb-false _ _ e in
+        other-cookie cookie (ping-alone r cookie .0) (λ small. omega (arith, small cookie room refl)) refl (ping-alone r cookie .1)
 
 -- ---- before the headers are exchanged no number is used
 
@@ -135,14 +146,14 @@ module _ (s : State) (o : Ok (setupOf (s .connection)) s) where
   pub line-good : (k : Call) (st : Stage) (p : Ping) (en : Ending) (rep : Report) (outs : List Output) → isTurn k ≡ false
       → queueAfter (s .connection) (s .queue) k (accept (lineEffect st p en rep outs)) ≡ s .queue → roleOf st ≡ roleOf (s .connection .stage) → farNumber st < 65_536
       → (st ≡ s .connection .stage) ⊎ (exchanged (s .connection .stage) ≡ false)
-      → ((m : ℕ) → events (roleOf (s .connection .stage)) m (outBy s k (accept (lineEffect st p en rep outs))) ≡ [])
+      → ((m : ℕ) → reported m k rep ≡ []) → OfLine outs
       → lineAfter (lineOf (s .connection)) (outBy s k (accept (lineEffect st p en rep outs))) ≡ lineOf (commit (s .connection) (lineEffect st p en rep outs))
       → s .connection .over ≡ false → reportedOf k rep ≡ 0 → outs ≡ meantBy (setupOf (s .connection)) (accountOf s 0) k (ok rep)
-      → (CookieFits k → ReadInOrder (roleOf (s .connection .stage)) (outBy s k (accept (lineEffect st p en rep outs)) .wrote) outs)
+      → Reads (roleOf (s .connection .stage)) k (outBy s k (accept (lineEffect st p en rep outs)) .wrote) outs
       → Every (mayGo (setupOf (s .connection)) (accountOf s 0) (outBy s k (accept (lineEffect st p en rep outs)))) outs
       → endTold k (ok rep) ≡ endedAs en → Good (setupOf (s .connection)) s k (lineEffect st p en rep outs)
   unfolding fold
-  line-good k st p en rep outs ht hq hr hf stages none line live concerns means reads allowed ended =
+  line-good k st p en rep outs ht hq hr hf stages unsaid ofLine line live concerns means reads allowed ended =
       record {
         inside = omega arith;
         last = o .last;
@@ -163,26 +174,34 @@ module _ (s : State) (o : Ok (setupOf (s .connection)) s) where
         lasts =
             λ hr _ _. ap (λ (q : List ℕ). isReady (look (farBy st) (at (s .connection) 0) (slot 0 q) .sends)) hq
             ∙ ap (λ (v : Seen). isReady (v .sends)) (stage-look st stages 0 (omega arith) (slot 0 (s .queue))) ∙ hr;
-        fated = sym (ap (λ (es : List Event). fold (fateAfter (isUnsent (holds s 0 .sends))) (fateOf (at (s .connection) 0 .outcome)) es) unsaid);
+        fated = sym (ap (λ (es : List Event). fold (fateAfter (isUnsent (holds s 0 .sends))) (fateOf (at (s .connection) 0 .outcome)) es) (unsaid 0));
         ends-so = ended;
-        end-alone = λ cause z. (refl, unsaid);
+        end-alone = λ cause z. (refl, unsaid 0);
         unmoved = λ _. none 0;
         untold = λ z. absurd (true-false z ht);
         live = live;
         concerns = concerns;
         means = means;
         reads = reads;
+        single = line-single outs ofLine;
         allowed = allowed;
         legal =
             subst (λ (es : List Event). AllLegal (roleOf (s .connection .stage)) (ownOf (setupOf (s .connection))) (farStart (s .connection)) (drop 4 (outBy s k (accept (lineEffect st p en rep outs)) .wrote)) (holds s 0) es)
             (sym (none 0)) tt;
       }
     where
-      unsaid : reported 0 k rep ≡ []
-      unsaid = append-first (reported 0 k rep) _ (none 0)
+      r : Role
+      r = roleOf (s .connection .stage)
+
+      bytes : List ℕ
+      bytes = outBy s k (accept (lineEffect st p en rep outs)) .wrote
+
+      none : (m : ℕ) → events (roleOf (s .connection .stage)) m (outBy s k (accept (lineEffect st p en rep outs))) ≡ []
+      none m =
+          ap (λ (es : List Event). es ++ gather (outputSeen m) (allWritten r bytes)) (unsaid m) ∙ reads-seen r k bytes outs m reads ∙ line-seen m outs ofLine
 
       silent-line : dataWritten (setupOf (s .connection)) (outBy s k (accept (lineEffect st p en rep outs))) ≡ []
-      silent-line = no-data (readMessage (roleOf (s .connection .stage)) _) (λ m. append-empty (reported m k rep) _ (none m))
+      silent-line = reads-data r k bytes outs reads ∙ line-data outs ofLine
 
   client-is : (r : Role) → isServer r ≡ false → role.Client ≡ r
   client-is role.Client e = refl
@@ -207,8 +226,8 @@ module _ (s : State) (o : Ok (setupOf (s .connection)) s) where
   start-good room _ live _ server fresh =
       line-good (start room) stage.Started (s .connection .ping) goes-on done (header-out (s .connection .own) ∷ []) refl refl
       (client-is (roleOf (s .connection .stage)) server) (omega arith) (inr (fresh-not-up (s .connection .stage) (not-false _ fresh)))
-      (λ m. header-no-message (roleOf (s .connection .stage)) [] (s .connection .own) m) refl live refl refl
-      (λ _. opening-read-back (roleOf (s .connection .stage)) (s .connection .own) [] [] (o .proper) (nothing-read-back (roleOf (s .connection .stage)) []))
+      (λ m. refl) tt refl live refl refl
+      (in-order (opening-read-back (roleOf (s .connection .stage)) (s .connection .own) [] [] (o .proper) (nothing-read-back (roleOf (s .connection .stage)) [])))
       (and-both (and-both (ap not live) (fresh-ungreeted (s .connection .stage) (not-false _ fresh))) (ap isClient (sym (client-is (roleOf (s .connection .stage)) server))), tt) refl
 
   pub ping-good : (cookie : ℕ) (room : List ℕ)
@@ -216,9 +235,7 @@ module _ (s : State) (o : Ok (setupOf (s .connection)) s) where
   unfolding pingRule Every
   ping-good cookie room _ live up _ _ =
       line-good (log.ping cookie room) (s .connection .stage) (ping.Outstanding cookie) goes-on done (sent (msg.Ping cookie) ∷ []) refl refl refl (o .far) (inl refl)
-      (λ m. ping-no-event (roleOf (s .connection .stage)) cookie m) refl live refl refl
-      (λ fits. sent-read-back (roleOf (s .connection .stage)) (msg.Ping cookie) []
-      (record { shift = omega arith; session = omega arith; number = fits cookie room refl; sender = refl; flags = refl; body = omega arith }))
+      (λ m. refl) (_, refl) refl live refl refl (ping-reads (roleOf (s .connection .stage)) cookie room)
       (and-both (ap not live) (greeted-is (s .connection .stage) ∙ not-false (exchanged (s .connection .stage)) up), tt) refl
 
   pub shutdown-good : (room : List ℕ) → Takes (Good (setupOf (s .connection)) s (shutdown room)) (shutdownRule (s .connection) (length room))
@@ -228,12 +245,11 @@ module _ (s : State) (o : Ok (setupOf (s .connection)) s) where
       let sendable : Sendable (roleOf (s .connection .stage)) (msg.Shutdown 0) [] =
       record { shift = omega arith; session = omega arith; number = omega arith; sender = server; flags = refl; body = omega arith } in
       line-good (shutdown room) (s .connection .stage) (s .connection .ping) (ends own-shutdown) done (sent (msg.Shutdown 0) ∷ []) refl refl refl (o .far) (inl refl)
-      (λ m. whole-no-event (roleOf (s .connection .stage)) [] (msg.Shutdown 0) m sendable refl) refl live refl refl
-      (λ _. sent-read-back (roleOf (s .connection .stage)) (msg.Shutdown 0) [] sendable)
+      (λ m. refl) (_, refl) refl live refl refl (in-order (sent-read-back (roleOf (s .connection .stage)) (msg.Shutdown 0) [] sendable))
       (and-both (ap not live) (and-both (greeted-is (s .connection .stage) ∙ not-false (exchanged (s .connection .stage)) up) server), tt) refl
 
   pub lost-good : Takes (Good (setupOf (s .connection)) s lost) (lostRule (s .connection))
   unfolding lostRule Every
   lost-good _ live =
       line-good lost (s .connection .stage) (s .connection .ping) (ends line-lost) done [] refl refl refl (o .far) (inl refl)
-      (λ m. nothing-read (roleOf (s .connection .stage)) [] m) refl live refl refl (λ _. nothing-read-back (roleOf (s .connection .stage)) []) tt refl
+      (λ m. refl) tt refl live refl refl (in-order (nothing-read-back (roleOf (s .connection .stage)) [])) tt refl

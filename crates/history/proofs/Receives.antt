@@ -45,14 +45,15 @@ use Rattle.protocol.specs.Asked.{isUnsent}
 use Rattle.protocol.specs.Fate.{not-ended}
 use Rattle.history.specs.Log.{Call, receive, State}
 use Rattle.history.proofs.Decisions.{outBy}
-use Rattle.history.specs.Account.{Line, lineByMessage, inScope, sessionIn, writtenMessage}
+use Rattle.history.specs.Account.{Line, lineByMessage, inScope, sessionIn}
 use Rattle.history.specs.Fates.{endedByMessage}
 use Rattle.history.specs.Meant.{ungreeted, answeredIn, answerOfAll, isPing, ReadInOrder, mayGo}
 use Rattle.history.proofs.Good.{Ok, Good, endedAs, ForSession, setupOf, lineOf, holds, accountOf}
 use Rattle.history.proofs.Sessions.{session-good}
-use Rattle.history.proofs.Written.{Sendable, sent-read-back, opening-read-back, nothing-read-back, nothing-read, only-own, only-other}
+use Rattle.history.proofs.InOrder.{in-order}
+use Rattle.history.proofs.Written.{Sendable, sent-read-back, opening-read-back, nothing-read-back, only-own, only-other}
 use Rattle.history.proofs.Steps.{formed-up, own-range, far-range, Fates, one-fate}
-use Rattle.history.proofs.Lines.{header-no-message, whole-no-event, line-good}
+use Rattle.history.proofs.Lines.{OfLine, line-good}
 
 -- a decision that takes something keeps what is observed, and a violation is answered with Error and counts as a lost line
 abbrev pub GoodBy : State → Call → Decision → Type 0
@@ -134,9 +135,9 @@ possible r m i x e f = go r m e (f .sender) (f .flags)
 module _ (s : State) (o : Ok (setupOf (s .connection)) s) (input room : List ℕ) (live : s .connection .over ≡ false) (begun : unstarted (s .connection .stage) ≡ false) where
   -- ---- a connection header
 
-  answers : (r : Role) (n : ℕ) → writtenMessage n (readMessage r (bytesOfAll [] (answering r (s .connection .own)))) ≡ []
-  answers role.Client n = nothing-read role.Client [] n
-  answers role.Server n = header-no-message role.Server [] (s .connection .own) n
+  answers : (r : Role) → OfLine (answering r (s .connection .own))
+  answers role.Client = tt
+  answers role.Server = tt
 
   answers-mean : (r : Role) → answering r (s .connection .own) ≡ pick (isServer r) (header-out (s .connection .own) ∷ []) [] ++ []
   unfolding pick
@@ -158,10 +159,9 @@ module _ (s : State) (o : Ok (setupOf (s .connection)) s) (input room : List ℕ
   header-good r er up greets (ok far) q =
       line-good s o (receive input room) (stage.Up r far) (s .connection .ping) goes-on (header-received far) (answering r (s .connection .own)) refl refl (sym er)
       (header-number input far q) (inr up)
-      (λ n. subst (λ (z : Role). writtenMessage n (readMessage z (bytesOfAll [] (answering r (s .connection .own)))) ≡ []) (sym er) (answers r n))
-      refl live refl
+      (λ m. refl) (answers r) refl live refl
       (answers-mean r ∙ sym (ap (λ (z : Role). pick (isServer z) (header-out (s .connection .own) ∷ []) [] ++ []) er))
-      (λ _. subst (λ (z : Role). ReadInOrder z (bytesOfAll [] (answering r (s .connection .own))) (answering r (s .connection .own))) (sym er) (answers-read r))
+      (in-order (subst (λ (z : Role). ReadInOrder z (bytesOfAll [] (answering r (s .connection .own))) (answering r (s .connection .own))) (sym er) (answers-read r)))
       (answers-go r far er greets) refl
   header-good r er up greets (refused n) q = tt
   header-good r er up greets (violation n) q = (refl, refl, live, begun)
@@ -176,11 +176,10 @@ module _ (s : State) (o : Ok (setupOf (s .connection)) s) (input room : List ℕ
   unfolding Every
   quiet-whole m x p en z a line ended =
       line-good s o (receive input room) (s .connection .stage) p en (message m false) [] refl refl refl (o .far) (inl refl)
-      (λ i. ap (λ (l : List Event). l ++ writtenMessage i (readMessage (roleOf (s .connection .stage)) (bytesOfAll [] []))) (ap (inScope i received) z) ∙ nothing-read (roleOf (s .connection .stage)) [] i)
-      (ap (lineByMessage (lineOf (s .connection))) z ∙ line) live (ap sessionIn z)
+      (λ i. ap (inScope i received) z) tt (ap (lineByMessage (lineOf (s .connection))) z ∙ line) live (ap sessionIn z)
       (sym (ap (λ (l : List Output). l ++ map (λ x. sent (numbered (sessionIn (scope m)) x)) (answeredIn (roleOf (s .connection .stage)) (holds s 0) (scope m))) (ap answerOfAll z ∙ a)
       ∙ ap (λ (y : Scope). map (λ x. sent (numbered (sessionIn (scope m)) x)) (answeredIn (roleOf (s .connection .stage)) (holds s 0) y)) z))
-      (λ _. nothing-read-back (roleOf (s .connection .stage)) []) tt (ap endedByMessage z ∙ ended)
+      (in-order (nothing-read-back (roleOf (s .connection .stage)) [])) tt (ap endedByMessage z ∙ ended)
 
   -- a Ping is answered with its PingAck
   ping-good : (m : Message) (k : ℕ) → scope m ≡ whole (ping-of k) → exchanged (s .connection .stage) ≡ true → Sent (otherEnd (roleOf (s .connection .stage))) m
@@ -190,12 +189,10 @@ module _ (s : State) (o : Ok (setupOf (s .connection)) s) (input room : List ℕ
       let sendable : Sendable (roleOf (s .connection .stage)) (msg.PingAck k) [] =
       record { shift = omega arith; session = omega arith; number = cookie-bound m k z (w .number); sender = refl; flags = refl; body = omega arith } in
       line-good s o (receive input room) (s .connection .stage) (s .connection .ping) goes-on (message m false) (sent (msg.PingAck k) ∷ []) refl refl refl (o .far) (inl refl)
-      (λ i. ap (λ (l : List Event). l ++ writtenMessage i (readMessage (roleOf (s .connection .stage)) (bytesOfAll [] (sent (msg.PingAck k) ∷ [])))) (ap (inScope i received) z)
-      ∙ whole-no-event (roleOf (s .connection .stage)) [] (msg.PingAck k) i sendable refl)
-      (ap (lineByMessage (lineOf (s .connection))) z) live (ap sessionIn z)
+      (λ i. ap (inScope i received) z) (_, refl) (ap (lineByMessage (lineOf (s .connection))) z) live (ap sessionIn z)
       (sym (ap (λ (l : List Output). l ++ map (λ x. sent (numbered (sessionIn (scope m)) x)) (answeredIn (roleOf (s .connection .stage)) (holds s 0) (scope m))) (ap answerOfAll z)
       ∙ ap (λ (y : Scope). (sent (msg.PingAck k) ∷ []) ++ map (λ x. sent (numbered (sessionIn (scope m)) x)) (answeredIn (roleOf (s .connection .stage)) (holds s 0) y)) z))
-      (λ _. sent-read-back (roleOf (s .connection .stage)) (msg.PingAck k) [] sendable)
+      (in-order (sent-read-back (roleOf (s .connection .stage)) (msg.PingAck k) [] sendable))
       (and-both (ap not live) (and-both (greeted-is (s .connection .stage) ∙ up) (ap (isPing k) z ∙ eq-eqb k k refl)), tt) (ap endedByMessage z)
 
   whole-good : (m : Message) (x : ConnectionMessage) → scope m ≡ whole x → exchanged (s .connection .stage) ≡ true → Sent (otherEnd (roleOf (s .connection .stage))) m

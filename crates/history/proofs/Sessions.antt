@@ -2,18 +2,17 @@
 use mathlib.Core.Path.{_≡_, refl, sym, ap, _∙_, subst}
 use mathlib.Core.Logic.{inl}
 use mathlib.Core.Bool.{Bool, true, false, not, _||_, or-false}
-use mathlib.Core.List.{List, [], _∷_, _++_, map}
+use mathlib.Core.List.{List, [], _∷_, _++_, append-nil, map}
 use native.Mathlib.Omega.{arith}
-use Prim.Native.Nat.{ℕ, _<_}
-use lib.ListN.{drop}
+use Prim.Native.Nat.{ℕ, _≤_, _<_}
+use lib.ListN.{length, drop}
 use borrow.Author.Tests.{eq-eqb}
 use Rattle.laws.specs.Result.{ok}
-use Rattle.laws.specs.Runs.{fold, Every}
+use Rattle.laws.specs.Runs.{fold, Every, gather}
 use Rattle.laws.proofs.Runs.{Move, still, serves}
 use Rattle.laws.proofs.Tests.{true-false, and-both}
 use Rattle.ration.specs.declared.Ration.{Ration}
 use Rattle.wire.specs.declared.Role.{Role}
-use Rattle.wire.specs.Message.{readMessage}
 use Rattle.state.specs.declared.Session.{Session}
 use Rattle.state.specs.declared.Setup.{Setup}
 use Rattle.protocol.specs.Queue.{slot}
@@ -30,31 +29,45 @@ use Rattle.protocol.proofs.Sound.{AllLawful, Carries, writes, isData, anyData}
 use Rattle.protocol.proofs.Legal.{Bears, AllLegal}
 use Rattle.history.specs.Log.{Call, State}
 use Rattle.history.proofs.Decisions.{queueAfter, payloadOf, outBy}
-use Rattle.history.specs.Account.{events, reported, reportedOf, writtenMessage}
+use Rattle.history.specs.Written.{allWritten}
+use Rattle.history.specs.Account.{events, reported, reportedOf, outputSeen}
 use Rattle.history.specs.Meant.{meantFor, meantBy, ReadInOrder, messageMayGo, mayGo}
 use Rattle.history.specs.Claims.{dataNumber, dataWritten, has}
 use Rattle.history.proofs.Good.{Ok, Good, ForSession, holds, accountOf, ownOf, readyAt, one}
-use Rattle.history.proofs.Written.{nothing-refused, numbered-read, numbered-read-back, nothing-read-back, sent-payload, scope-numbered, written-own, written-other, nothing-read}
+use Rattle.history.proofs.InOrder.{in-order, written-is}
+use Rattle.history.proofs.Written.{numbered-read-back, nothing-read-back, sent-payload, scope-numbered, written-own, written-other}
 
 module _ (r : Role) (own far : Ration) (x : Session) (sl : List ℕ) (h : List Event) (n : ℕ) (hn : n < 128) (payload : List ℕ) where
-  -- what is written for a session is read as those events, and as none of another number
-  wrote-own : (ms : List SessionMessage) → AllLawful r own far x sl h payload ms
-      → writtenMessage n (readMessage r (bytesOfAll payload (map (λ m. sent (numbered n m)) ms))) ≡ writes ms
-  wrote-own [] l = nothing-read r payload n
-  wrote-own (m ∷ []) l = ap (writtenMessage n) (numbered-read r n m payload hn (l .ours) (l .fits) (l .body)) ∙ written-own n m
-  wrote-own (m ∷ j ∷ ms) l = absurd l
-
-  wrote-other : (i : ℕ) → (n ≡ i → ⊥) → (ms : List SessionMessage) → AllLawful r own far x sl h payload ms
-      → writtenMessage i (readMessage r (bytesOfAll payload (map (λ m. sent (numbered n m)) ms))) ≡ []
-  wrote-other i d [] l = nothing-read r payload i
-  wrote-other i d (m ∷ []) l = ap (writtenMessage i) (numbered-read r n m payload hn (l .ours) (l .fits) (l .body)) ∙ written-other i n m d
-  wrote-other i d (m ∷ j ∷ ms) l = absurd l
-
   reads-own : (ms : List SessionMessage) → AllLawful r own far x sl h payload ms
       → ReadInOrder r (bytesOfAll payload (map (λ m. sent (numbered n m)) ms)) (map (λ m. sent (numbered n m)) ms)
   reads-own [] l = nothing-read-back r payload
   reads-own (m ∷ []) l = numbered-read-back r n m payload hn (l .ours) (l .fits) (l .body)
   reads-own (m ∷ j ∷ ms) l = absurd l
+
+  -- what is written for a session is read as those events, and as none of another number
+  wrote-own : (ms : List SessionMessage) → AllLawful r own far x sl h payload ms
+      → gather (outputSeen n) (allWritten r (bytesOfAll payload (map (λ m. sent (numbered n m)) ms))) ≡ writes ms
+  unfolding gather
+  wrote-own ms l = ap (gather (outputSeen n)) (written-is r _ _ (reads-own ms l)) ∙ go ms
+    where
+      go : (ms : List SessionMessage) → gather (outputSeen n) (map (λ m. sent (numbered n m)) ms) ≡ writes ms
+      go [] = refl
+      go (m ∷ ms) = rw (written-own n m, go ms)
+
+  wrote-other : (i : ℕ) → (n ≡ i → ⊥) → (ms : List SessionMessage) → AllLawful r own far x sl h payload ms
+      → gather (outputSeen i) (allWritten r (bytesOfAll payload (map (λ m. sent (numbered n m)) ms))) ≡ []
+  unfolding gather
+  wrote-other i d ms l = ap (gather (outputSeen i)) (written-is r _ _ (reads-own ms l)) ∙ go ms
+    where
+      go : (ms : List SessionMessage) → gather (outputSeen i) (map (λ m. sent (numbered n m)) ms) ≡ []
+      go [] = refl
+      go (m ∷ ms) = rw (written-other i n m d, go ms)
+
+  -- and it is one message at most
+  one-own : (ms : List SessionMessage) → AllLawful r own far x sl h payload ms → length (map (λ m. sent (numbered n m)) ms) ≤ 1
+  one-own [] l = omega arith
+  one-own (m ∷ []) l = omega arith
+  one-own (m ∷ j ∷ ms) l = absurd l
 
   -- what follows the header is what the message carries
   bears : (m : SessionMessage) (v : Sending) → Carries payload v m → Bears (drop 4 (bytesOfAll payload (sent (numbered n m) ∷ []))) v m
@@ -78,7 +91,7 @@ unfolding fold
 legal-append r own far p [] ws v a b = b
 legal-append r own far p (e ∷ es) ws v a b = (a .0, legal-append r own far p es ws (observe own far v e) (a .1) b)
 
-data-of-numbered : (n : ℕ) (m : SessionMessage) → dataNumber (ok (numbered n m)) ≡ one (isData m) n
+data-of-numbered : (n : ℕ) (m : SessionMessage) → dataNumber (sent (numbered n m)) ≡ one (isData m) n
 data-of-numbered n (data-of k b c e a) = refl
 data-of-numbered n (increment-of k) = refl
 data-of-numbered n (abort-of p) = refl
@@ -86,14 +99,15 @@ data-of-numbered n close-of = refl
 data-of-numbered n acknowledgment-of = refl
 
 data-sent : (r : Role) (own far : Ration) (x : Session) (sl : List ℕ) (h : List Event) (n : ℕ) → n < 128 → (payload : List ℕ) (ms : List SessionMessage) (d : Bool)
-    → AllLawful r own far x sl h payload ms → anyData ms ≡ d → dataNumber (readMessage r (bytesOfAll payload (map (λ m. sent (numbered n m)) ms))) ≡ one d n
-data-sent r own far x sl h n hn payload [] d l e = nothing-number r payload ∙ ap (λ (b : Bool). one b n) e
+    → AllLawful r own far x sl h payload ms → anyData ms ≡ d → gather dataNumber (allWritten r (bytesOfAll payload (map (λ m. sent (numbered n m)) ms))) ≡ one d n
+unfolding gather
+data-sent r own far x sl h n hn payload ms d l e =
+    ap (gather dataNumber) (written-is r _ _ (reads-own r own far x sl h n hn payload ms l)) ∙ go ms l ∙ ap (λ (b : Bool). one b n) e
   where
-    nothing-number : (r : Role) (payload : List ℕ) → dataNumber (readMessage r (bytesOfAll payload [])) ≡ []
-    nothing-number r payload = ap dataNumber (nothing-refused r payload)
-data-sent r own far x sl h n hn payload (m ∷ []) d l e =
-    ap dataNumber (numbered-read r n m payload hn (l .ours) (l .fits) (l .body)) ∙ data-of-numbered n m ∙ ap (λ (b : Bool). one b n) (sym (or-false (isData m)) ∙ e)
-data-sent r own far x sl h n hn payload (m ∷ j ∷ ms) d l e = absurd l
+    go : (ms : List SessionMessage) → AllLawful r own far x sl h payload ms → gather dataNumber (map (λ m. sent (numbered n m)) ms) ≡ one (anyData ms) n
+    go [] l = refl
+    go (m ∷ []) l = append-nil (dataNumber (sent (numbered n m))) ∙ data-of-numbered n m ∙ ap (λ (b : Bool). one b n) (sym (or-false (isData m)))
+    go (m ∷ j ∷ ms) l = absurd l
 
 lapse-first : (h k : List Event) → anyLapse (h ++ k) ≡ false → anyLapse h ≡ false
 lapse-first [] k e = refl
@@ -190,7 +204,8 @@ session-good setup s k n last rep h d t o g =
       live = g .live;
       concerns = g .concerns;
       means = wrote-means setup s k n last rep h t o d g;
-      reads = λ _. reads-own (setup .role) (ownOf setup) far x sl h n (g .inside) payload (t .sent) (g .sound .lawful);
+      reads = in-order (reads-own (setup .role) (ownOf setup) far x sl h n (g .inside) payload (t .sent) (g .sound .lawful));
+      single = one-own (setup .role) (ownOf setup) far x sl h n (g .inside) payload (t .sent) (g .sound .lawful);
       allowed = allows-own setup s k n last rep h t o d g payload (t .sent) (g .sound .lawful);
       legal =
           subst (λ (es : List Event). AllLegal (setup .role) (ownOf setup) far (drop 4 (outBy s k (accept e) .wrote)) (holds s n) es)

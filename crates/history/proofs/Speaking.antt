@@ -22,10 +22,12 @@ use Rattle.protocol.proofs.Views.{greetingOf}
 use Rattle.history.specs.Log.{Call, State, Entry, out, Proper}
 use Rattle.history.specs.Log as log
 use Rattle.history.proofs.Decisions.{decide, payloadOf, outBy, out-is}
+use Rattle.history.specs.Written.{allWritten}
 use Rattle.history.specs.Account.{Account, concerned}
 use Rattle.history.specs.Meant.{ungreeted, meantBy, ReadInOrder, mayGo}
 use Rattle.history.specs.Claims.{accountBefore, ReadsBack, SendsAllowed}
-use Rattle.history.proofs.Good.{CookieFits, Ok, setupOf, accountOf}
+use Rattle.history.proofs.InOrder.{CookieFits, reads-fitting, written-is}
+use Rattle.history.proofs.Good.{Ok, setupOf, accountOf}
 use Rattle.history.proofs.Written.{sent-read-back, opening-read-back}
 use Rattle.history.proofs.Receives.{GoodBy}
 use Rattle.history.proofs.Simulation.{decide-good, same-setup, own-ok, observed-is, run-made}
@@ -53,6 +55,10 @@ error-reads : (r : Role) (payload : List ℕ) (st : Stage) (own : ℕ) → own <
 error-reads r payload (stage.Fresh q) own h = opening-read-back r own payload (sent (msg.Error 0) ∷ []) h (error-read r payload)
 error-reads r payload stage.Started own h = error-read r payload
 error-reads r payload (stage.Up q far) own h = error-read r payload
+
+-- header and Error are read as two, Error alone as one
+pub error-written : (r : Role) (payload : List ℕ) (st : Stage) (own : ℕ) → own < 65_536 → allWritten r (bytesOfAll payload (errorAfter st own)) ≡ errorAfter st own
+error-written r payload st own h = written-is r (bytesOfAll payload (errorAfter st own)) (errorAfter st own) (error-reads r payload st own h)
 
 -- a client that is not started finds no violation
 begun-server : (st : Stage) → ungreeted (greetingOf st) ≡ true → unstarted st ≡ false → isServer (roleOf st) ≡ true
@@ -97,7 +103,9 @@ module _ (s : State) (o : Ok (setupOf (s .connection)) s) (k : Call) where
   speaks-by (accept e) g =
       subst (λ (n : ℕ). Speaks (setupOf (s .connection)) (accountOf s n) (outBy s k (accept e))) (sym (g .concerns))
       (record {
-        reads = λ fits. subst (λ (os : List Output). ReadInOrder (roleOf (s .connection .stage)) (outBy s k (accept e) .wrote) os) (g .means) (g .reads fits);
+        reads =
+            λ fits. subst (λ (os : List Output). ReadInOrder (roleOf (s .connection .stage)) (outBy s k (accept e) .wrote) os) (g .means)
+            (reads-fitting (roleOf (s .connection .stage)) k (outBy s k (accept e) .wrote) (e .outs) (g .reads) fits);
         allowed = subst (λ (os : List Output). Every (mayGo (setupOf (s .connection)) (accountOf s (e .number)) (outBy s k (accept e))) os) (g .means) (g .allowed);
       })
 

@@ -8,8 +8,7 @@ use native.Mathlib.Omega.{arith}
 use lib.ListN.{length, take, drop}
 use lib.Seq.{length-take-le, drop-at}
 use borrow.Author.Tests.{lt-ltb, eq-eqb, ne-eqb}
-use Rattle.laws.specs.Pick.{pick}
-use Rattle.laws.specs.Result.{ok, refused}
+use Rattle.laws.specs.Result.{ok}
 use Rattle.laws.proofs.Pick.{yes, no}
 use Rattle.laws.proofs.Tests.{and-both}
 use Rattle.wire.specs.declared.Role.{Role}
@@ -23,7 +22,7 @@ use Rattle.protocol.specs.Result.{bytesOf, bytesOfAll}
 use Rattle.protocol.specs.Observed.{Event, wrote, fromRole}
 use Rattle.protocol.proofs.Sound.{Fits, carried}
 use Rattle.protocol.proofs.Reports.{used-is}
-use Rattle.history.specs.Account.{only, inScope, writtenMessage}
+use Rattle.history.specs.Account.{only, inScope, outputSeen}
 use Rattle.history.specs.Meant.{ReadInOrder}
 
 -- ---- a message without a body, or with one
@@ -96,10 +95,6 @@ sendable r i close-of payload h f fits l = record { shift = omega arith; session
 sendable r i acknowledgment-of payload h f fits l =
     record { shift = omega arith; session = h; number = omega arith; sender = f; flags = refl; body = l }
 
-pub numbered-read : (r : Role) (i : ℕ) (m : SessionMessage) (payload : List ℕ) → i < 128 → fromRole r m ≡ true → Fits m → carried m ≤ length payload
-    → readMessage r (bytesOfAll payload (sent (numbered i m) ∷ [])) ≡ ok (numbered i m)
-numbered-read r i m payload h f fits l = sent-read r (numbered i m) payload (sendable r i m payload h f fits l)
-
 pub numbered-read-back : (r : Role) (i : ℕ) (m : SessionMessage) (payload : List ℕ) → i < 128 → fromRole r m ≡ true → Fits m → carried m ≤ length payload
     → ReadInOrder r (bytesOfAll payload (sent (numbered i m) ∷ [])) (sent (numbered i m) ∷ [])
 numbered-read-back r i m payload h f fits l = sent-read-back r (numbered i m) payload (sendable r i m payload h f fits l)
@@ -112,16 +107,8 @@ only-own n e = yes _ _ _ (eq-eqb n n refl)
 pub only-other : (n i : ℕ) (e : Event) → (i ≡ n → ⊥) → only n i e ≡ []
 only-other n i e d = no _ _ _ (ne-eqb i n d)
 
-pub written-own : (i : ℕ) (m : SessionMessage) → writtenMessage i (ok (numbered i m)) ≡ wrote m ∷ []
+pub written-own : (i : ℕ) (m : SessionMessage) → outputSeen i (sent (numbered i m)) ≡ wrote m ∷ []
 written-own i m = ap (inScope i wrote) (scope-numbered i m) ∙ only-own i (wrote m)
 
-pub written-other : (n i : ℕ) (m : SessionMessage) → (i ≡ n → ⊥) → writtenMessage n (ok (numbered i m)) ≡ []
+pub written-other : (n i : ℕ) (m : SessionMessage) → (i ≡ n → ⊥) → outputSeen n (sent (numbered i m)) ≡ []
 written-other n i m d = ap (inScope n wrote) (scope-numbered i m) ∙ only-other n i (wrote m) d
-
--- nothing written is no message
-pub nothing-refused : (r : Role) (payload : List ℕ) → readMessage r (bytesOfAll payload []) ≡ refused 10
-unfolding bytesOfAll readMessage pick
-nothing-refused r payload = refl
-
-pub nothing-read : (r : Role) (payload : List ℕ) (n : ℕ) → writtenMessage n (readMessage r (bytesOfAll payload [])) ≡ []
-nothing-read r payload n = ap (writtenMessage n) (nothing-refused r payload)

@@ -5,19 +5,18 @@ use mathlib.Core.List.{List, [], _∷_, _++_}
 use lib.Dec.{eqb}
 use Rattle.laws.specs.Pick.{pick}
 use Rattle.laws.specs.Result.{Result, ok, refused, violation}
-use Rattle.laws.specs.Runs.{fold}
+use Rattle.laws.specs.Runs.{fold, gather}
 use Rattle.ration.specs.declared.Ration.{Ration}
 use Rattle.ration.specs.declared.Ration.the-variants as ration
 use Rattle.ration.specs.Ration.{fromHeader}
 use Rattle.wire.specs.declared.Role.{Role}
-use Rattle.wire.specs.declared.Message.{Message}
-use Rattle.wire.specs.Message.{readMessage}
 use Rattle.state.specs.declared.Setup.{Setup}
 use Rattle.protocol.specs.Message.{no-operation-of, shutdown-of, error-of, ping-of, ping-ack-of, SessionMessage, Scope, whole, of-session, scope}
-use Rattle.protocol.specs.Judge.{Report, done, served, header-received, message}
+use Rattle.protocol.specs.Judge.{Report, done, served, header-received, message, Output, header-out, sent}
 use Rattle.protocol.specs.Observed.{Greeting, no-header, own-header, both-headers, startTold, Pinging, no-ping, pinged, Event, opens, finishes, aborts, puts, received, wrote, silent, unused, Seen, observe}
 use Rattle.history.specs.Log.{Call, start, open-session, put, finish, turn, grant, abort, close, shutdown, lost, receive, Entry}
 use Rattle.history.specs.Log as log
+use Rattle.history.specs.Written.{allWritten}
 
 -- ---- of the connection: whether it is over, the headers so far, the ping that is not answered
 
@@ -105,11 +104,10 @@ reported n k (served i) = []
 reported n k (header-received far) = []
 reported n k (message m late) = inScope n received (scope m)
 
--- a message that is written, as the reader reads it
-abbrev pub writtenMessage : ℕ → Result Message → List Event
-writtenMessage n (ok m) = inScope n wrote (scope m)
-writtenMessage n (refused k) = []
-writtenMessage n (violation k) = []
+-- a message that is written
+abbrev pub outputSeen : ℕ → Output → List Event
+outputSeen n (header-out own) = []
+outputSeen n (sent m) = inScope n wrote (scope m)
 
 -- what a call that is taken tells by its report
 abbrev pub toldBy : ℕ → Call → Result Report → List Event
@@ -118,7 +116,7 @@ toldBy n k (refused j) = []
 toldBy n k (violation j) = []
 
 abbrev pub eventsByAnswer : Role → ℕ → Call → List ℕ → Result Report → List Event
-eventsByAnswer r n k bytes (ok p) = reported n k p ++ writtenMessage n (readMessage r bytes)
+eventsByAnswer r n k bytes (ok p) = reported n k p ++ gather (outputSeen n) (allWritten r bytes)
 eventsByAnswer r n k bytes (refused j) = []
 eventsByAnswer r n k bytes (violation j) = []
 

@@ -26,14 +26,15 @@ use Rattle.state.specs.declared.Connection.{Connection}
 use Rattle.state.specs.declared.Setup.{Setup}
 use Rattle.protocol.specs.Slot.{slotSize, queueSize, turnRoom}
 use Rattle.protocol.specs.Queue.{slot}
-use Rattle.protocol.specs.Message.{ConnectionMessage, no-operation-of, shutdown-of, error-of, ping-of, ping-ack-of, numbered, Scope, whole, of-session, scope}
+use Rattle.protocol.specs.Message.{ConnectionMessage, no-operation-of, shutdown-of, error-of, ping-of, ping-ack-of, data-of, increment-of, abort-of, close-of, acknowledgment-of, numbered, Scope, whole, of-session, scope}
 use Rattle.protocol.specs.Connection.{otherEnd, at, wellFormed}
-use Rattle.protocol.specs.Judge.{Report, done, served, header-received, message, Output}
+use Rattle.protocol.specs.Judge.{Report, done, served, header-received, message, Output, header-out, sent}
 use Rattle.protocol.specs.Observed.{Pinging, greeted, awaits, Sending, silent, sending, isReady, anyLapse, ends, established, dueData, lateFor, mayArrive, wrongNumber}
 use Rattle.protocol.specs.Fate.{fateOf}
 use Rattle.protocol.specs.Totals.{blankLedger, Balanced, Covers}
 use Rattle.history.specs.Log.{Call, put, turn, ping, receive, roomOf, State, called, Entry, next, out, run}
 use Rattle.history.specs.Log as log
+use Rattle.history.specs.Written.{allWritten}
 use Rattle.history.specs.Account.{Account, lineAfter, events, concerned, askedOf, farOf, observed, blankAccount}
 use Rattle.history.specs.Held.{accountOf}
 use Rattle.history.specs.Answers.{answerTold}
@@ -48,23 +49,21 @@ abbrev pub ready : Setup → ℕ → List Entry → Bool
 ready s n a = isReady (observed s n a .seen .sends)
 
 -- the session number of a Data message
-abbrev pub dataNumber : Result Message → List ℕ
-dataNumber (ok (msg.NoOperation n)) = []
-dataNumber (ok (msg.Shutdown n)) = []
-dataNumber (ok (msg.Ping k)) = []
-dataNumber (ok (msg.PingAck k)) = []
-dataNumber (ok (msg.Error n)) = []
-dataNumber (ok (msg.IncrementRation t i n)) = []
-dataNumber (ok (msg.Abort p i n)) = []
-dataNumber (ok (msg.Close i)) = []
-dataNumber (ok (msg.Acknowledgment i)) = []
-dataNumber (ok (msg.Data o c e a i n)) = i ∷ []
-dataNumber (refused n) = []
-dataNumber (violation n) = []
+abbrev pub dataIn : Scope → List ℕ
+dataIn (whole w) = []
+dataIn (of-session i (data-of size begins close eof ack)) = i ∷ []
+dataIn (of-session i (increment-of amount)) = []
+dataIn (of-session i (abort-of partial)) = []
+dataIn (of-session i close-of) = []
+dataIn (of-session i acknowledgment-of) = []
 
--- the number whose data message an entry wrote first; reads-back says that nothing stands behind it
+abbrev pub dataNumber : Output → List ℕ
+dataNumber (header-out own) = []
+dataNumber (sent m) = dataIn (scope m)
+
+-- the numbers of all Data messages that an entry wrote
 abbrev pub dataWritten : Setup → Entry → List ℕ
-dataWritten s e = dataNumber (readMessage (s .role) (e .wrote))
+dataWritten s e = gather dataNumber (allWritten (s .role) (e .wrote))
 
 abbrev pub has : ℕ → List ℕ → Bool
 has n [] = false
@@ -338,8 +337,8 @@ pub record RationLedger (s : Setup) (queue : List ℕ) (calls : List Call) (n : 
   pub inbound : (o : Side) → established o ≡ true → observed s n (log.log s queue calls) .seen .standing ≡ ends o side.Open
       → Balanced (fromHeader (s .header)) (summed s n (log.log s queue calls) .totals .receiving) (at (run s queue calls .connection) n .inbound)
   -- no Data message that is written passes what was granted, nor does one that is taken and not late
-  pub written : (a c : List Entry) (e : Entry) (begins close eof ack : Bool) (size : ℕ) → log.log s queue calls ≡ a ++ (e ∷ c)
-      → readMessage (s .role) (e .wrote) ≡ ok (msg.Data begins close eof ack n size)
+  pub written : (a c : List Entry) (e : Entry) (before after : List Output) (begins close eof ack : Bool) (size : ℕ)
+      → log.log s queue calls ≡ a ++ (e ∷ c) → allWritten (s .role) (e .wrote) ≡ before ++ (sent (msg.Data begins close eof ack n size) ∷ after)
       → Covers (farOf (observed s n a .line)) (summed s n a .totals .sending) size
   pub begun : (a c : List Entry) (e : Entry) (close eof ack late : Bool) (size : ℕ) → log.log s queue calls ≡ a ++ (e ∷ c)
       → e .answer ≡ ok (message (msg.Data true close eof ack n size) late) → Covers (fromHeader (s .header)) blankLedger size
@@ -360,6 +359,6 @@ pub record PutStream (s : Setup) (queue : List ℕ) (calls : List Call) (n : ℕ
       → summed s n (log.log s queue calls) .totals .payloads ++ take (at (run s queue calls .connection) n .waiting) (slot n (run s queue calls .queue))
       ≡ summed s n (log.log s queue calls) .totals .put
   -- at the Data message with eof its payloads are all the bytes put
-  pub whole : (a c : List Entry) (e : Entry) (begins close ack : Bool) (size : ℕ) → log.log s queue calls ≡ a ++ (e ∷ c)
-      → readMessage (s .role) (e .wrote) ≡ ok (msg.Data begins close true ack n size)
+  pub whole : (a c : List Entry) (e : Entry) (before after : List Output) (begins close ack : Bool) (size : ℕ)
+      → log.log s queue calls ≡ a ++ (e ∷ c) → allWritten (s .role) (e .wrote) ≡ before ++ (sent (msg.Data begins close true ack n size) ∷ after)
       → summed s n (a ++ (e ∷ [])) .totals .payloads ≡ summed s n (a ++ (e ∷ [])) .totals .put

@@ -21,7 +21,7 @@ blankSum s =
       totals = record { seen = blankAccount s .seen; sending = blankLedger; receiving = blankLedger; put = []; payloads = [] };
     }
 
--- what follows the four bytes of a message's header is its payload
+-- what follows the four bytes of a message's header is its payload; a call that writes a Data message writes nothing else
 unfoldable pub sumAfter : Setup → ℕ → Sum → Entry → Sum
 sumAfter s n z e =
     record {

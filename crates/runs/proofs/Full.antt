@@ -34,7 +34,8 @@ use Rattle.history.specs.Log.{Call, turn, State, Entry, next, out, made, log}
 use Rattle.history.proofs.Decisions.{decide, nextBy, outBy, next-is, out-is}
 use Rattle.history.specs.Claims.{ready, dataNumber, dataWritten, waitsOn}
 use Rattle.history.proofs.Good.{readyAt}
-use Rattle.history.proofs.Written.{numbered-read}
+use Rattle.history.proofs.InOrder.{written-is}
+use Rattle.history.proofs.Written.{numbered-read-back}
 use Rattle.history.proofs.Fair.{ready-is}
 use Rattle.history.proofs.Bounded.{bounded-waiting}
 use Rattle.runs.proofs.Played.{played, starts, receives, taken, greets}
@@ -120,8 +121,9 @@ module _ (own far : ℕ) (ho : own < 65_536) (hf : far < 65_536) (queue : List �
 
 module _ (own : ℕ) (room : List ℕ) where
   own-data : (i : ℕ) → i < 128 → dataWritten (client-of own) (served-entry room i) ≡ i ∷ []
-  unfolding bytesOfAll
-  own-data i h = ap dataNumber (numbered-read role.Client i (data-of 0 true false false false) [] h refl (omega arith) (omega arith))
+  unfolding bytesOfAll gather
+  own-data i h =
+      ap (gather dataNumber) (written-is role.Client _ _ (numbered-read-back role.Client i (data-of 0 true false false false) [] h refl (omega arith) (omega arith)))
 
   served-numbers : (i k : ℕ) → i + k ≤ 128 → gather (dataWritten (client-of own)) (served-entries room i k) ≡ from i k
   unfolding gather

@@ -22,6 +22,7 @@ use Rattle.protocol.specs.Judge.{Report, judge}
 use Rattle.protocol.specs.Call.{startRule, openRule, putRule, finishRule, turnRule, grantRule, abortRule, closeRule, pingRule, shutdownRule, lostRule, receiveRule}
 use Rattle.protocol.specs.Result.{bytesOfAll, startCall, openCall, putCall, finishCall, turnCall, grantCall, abortCall, closeCall, pingCall, shutdownCall, lostCall, receiveCall}
 use Rattle.history.specs.Log.{Call, start, turn, receive, Entry, next, out, log}
+use Rattle.history.specs.Written.{writtenUpTo}
 use Rattle.history.specs.Account.{accountAfter, observed}
 use Rattle.history.specs.Sums.{sumAfter, summed}
 use Rattle.history.specs.Fates.{fatedAfter, fateTold}
@@ -32,7 +33,7 @@ unfolding run logOf fold Every gather pick following firstAfter nearest fromHead
     readConnectionHeader parseConnectionHeader settle wellFormed allFormed sessionFormed receipt ask.readySession openAsk putAsk finishAsk grantAsk abortAsk closeAsk turnAsk
     judge startRule openRule putRule finishRule turnRule grantRule abortRule closeRule pingRule shutdownRule lostRule receiveRule bytesOfAll
     startCall openCall putCall finishCall turnCall grantCall abortCall closeCall pingCall shutdownCall lostCall receiveCall next out accountAfter observed
-    sumAfter summed fatedAfter fateTold
+    writtenUpTo sumAfter summed fatedAfter fateTold
 played setup queue calls = log setup queue calls
 
 -- ---- two ends just made, with the header numbers 8 and 4
