@@ -25,4 +25,5 @@ pub mod Counting
 pub mod Answering
 pub mod Outcomes
 pub mod Ends
+pub mod LapsesOnly
 pub mod Rooms

@@ -7,4 +7,5 @@ pub mod Meant
 pub mod Sums
 pub mod Fates
 pub mod Answers
+pub mod Lapsed
 pub mod Claims
