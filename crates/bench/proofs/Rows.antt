@@ -15,7 +15,7 @@ use Rattle.protocol.specs.Result.{bytesOfAll, receiveCall}
 use Rattle.clock_numbers.specs.Arithmetic.{wholeNumber, 0·75, 0·25, 0·875, 0·125}
 use Rattle.clock_sample.specs.Clock.{newClock, first, later, updated, goodClock, sampleRule}
 use Rattle.clock_limit.specs.Limit.{goodSetting, measured, limitRule}
-use Rattle.bench.specs.Row.{connectionAfter, limitsAfter, holds, All}
+use Rattle.bench.specs.Row.{connectionAfter, limitsAfter, rowHolds, All}
 use Rattle.bench.specs.Table.{caseTable}
 
 -- one row, and the rows behind it
@@ -23,11 +23,11 @@ infixr 5 _and_
 pub _and_ : {A B : Type 0} → A → B → A × B
 a and b = (a, b)
 
-pub every-row : All holds caseTable
+pub every-row : All rowHolds caseTable
 unfolding pick fromHeader kindOf readMessage parseHeader typed allowed effectiveIncrement readConnectionHeader parseConnectionHeader settle
     wellFormed allFormed sessionFormed receipt judge receiveRule bytesOfAll receiveCall
     limitsAfter newClock first later updated goodClock sampleRule goodSetting measured limitRule wholeNumber 0·75 0·25 0·875 0·125 ofInt add sub mul div lt le
-    connectionAfter holds All
+    connectionAfter rowHolds All
 every-row =
     -- 1
     refl and refl and refl

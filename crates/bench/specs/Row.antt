@@ -105,12 +105,12 @@ limitsAfter setting clock (R ∷ Rs) = let next = sampleRule clock R .1 in limit
 
 -- ---- what a row claims
 
-unfoldable pub holds : CaseRow → Type 0
-holds (header-case bytes must) = granted (readConnectionHeader bytes) ≡ must
-holds (message-case from bytes must) = followed bytes (readMessage from bytes) ≡ must
-holds (message-of-either bytes must) = (from : Role) → followed bytes (readMessage from bytes) ≡ must
-holds (receive-case end earlier w before input must) = Receives (connectionAfter (fresh end) earlier) w before input must
-holds (limits setting samples must) = limitsAfter setting newClock samples ≡ must
+unfoldable pub rowHolds : CaseRow → Type 0
+rowHolds (header-case bytes must) = granted (readConnectionHeader bytes) ≡ must
+rowHolds (message-case from bytes must) = followed bytes (readMessage from bytes) ≡ must
+rowHolds (message-of-either bytes must) = (from : Role) → followed bytes (readMessage from bytes) ≡ must
+rowHolds (receive-case end earlier w before input must) = Receives (connectionAfter (fresh end) earlier) w before input must
+rowHolds (limits setting samples must) = limitsAfter setting newClock samples ≡ must
 
 -- a claim about each row of a list
 unfoldable pub All : (CaseRow → Type 0) → List CaseRow → Type 0

@@ -20,7 +20,7 @@ use Rattle.history.specs.Log as log
 use Rattle.history.specs.Account.{only, inScope, outputSeen, eventsByAnswer, lineByAnswer, blankAccount}
 use Rattle.history.specs.Written.{allWritten}
 use Rattle.history.specs.Claims.{lapse}
-use Rattle.history.specs.Lapsed.{Lapsed, own-abort, abort-received, close-received, close-flag-received, line-lost, own-shutdown, shutdown-received, error-received, violated}
+use Rattle.history.specs.Lapsed.{Lapsed, own-abort-lapses, abort-lapses, close-lapses, close-flag-lapses, lost-line-lapses, own-shutdown-lapses, shutdown-lapses, error-lapses, violation-lapses}
 
 any-append : (a b : List Event) → anyLapse (a ++ b) ≡ (anyLapse a || anyLapse b)
 any-append [] b = refl
@@ -80,26 +80,26 @@ module _ (s : Setup) (n : ℕ) (e : Entry) where
   by-call (finish i) p q h = none (only n i finishes) (only-quiet n i finishes refl) h
   by-call (turn room) p q h = none [] refl h
   by-call (grant i amount room) p q h = none [] refl h
-  by-call (abort i partial room) p q h = own i aborts (λ z. own-abort partial room (p ∙ ap (λ (j : ℕ). abort j partial room) z) q) h
+  by-call (abort i partial room) p q h = own i aborts (λ z. own-abort-lapses partial room (p ∙ ap (λ (j : ℕ). abort j partial room) z) q) h
   by-call (close i room) p q h = none [] refl h
   by-call (log.ping cookie room) p q h = none [] refl h
-  by-call (shutdown room) p q h = own-shutdown room p q
-  by-call lost p q h = line-lost p q
+  by-call (shutdown room) p q h = own-shutdown-lapses room p q
+  by-call lost p q h = lost-line-lapses p q
   by-call (receive input room) p q h = none [] refl h
 
   by-message : (k : Call) (m : Message) (late : Bool) → e .answer ≡ ok (message m late)
       → (anyLapse (eventsByAnswer (s .role) n k (e .wrote) (ok (message m late))) || lineByAnswer (blankAccount s .line) k (ok (message m late)) .over) ≡ true → Lapsed n e
   by-message k (msg.NoOperation d) late q h = none [] refl h
-  by-message k (msg.Shutdown d) late q h = shutdown-received late d q
+  by-message k (msg.Shutdown d) late q h = shutdown-lapses late d q
   by-message k (msg.Ping c) late q h = none [] refl h
   by-message k (msg.PingAck c) late q h = none [] refl h
-  by-message k (msg.Error d) late q h = error-received late d q
+  by-message k (msg.Error d) late q h = error-lapses late d q
   by-message k (msg.IncrementRation t i a) late q h = none (only n i _) (only-quiet n i _ refl) h
-  by-message k (msg.Abort partial i d) late q h = own i _ (λ z. abort-received partial late d (q ∙ ap (λ (j : ℕ). ok (message (msg.Abort partial j d) late)) z)) h
-  by-message k (msg.Close i) late q h = own i _ (λ z. close-received late (q ∙ ap (λ (j : ℕ). ok (message (msg.Close j) late)) z)) h
+  by-message k (msg.Abort partial i d) late q h = own i _ (λ z. abort-lapses partial late d (q ∙ ap (λ (j : ℕ). ok (message (msg.Abort partial j d) late)) z)) h
+  by-message k (msg.Close i) late q h = own i _ (λ z. close-lapses late (q ∙ ap (λ (j : ℕ). ok (message (msg.Close j) late)) z)) h
   by-message k (msg.Acknowledgment i) late q h = none (only n i _) (only-quiet n i _ refl) h
   by-message k (msg.Data begins true eof ack i size) late q h =
-      own i _ (λ z. close-flag-received begins eof ack late size (q ∙ ap (λ (j : ℕ). ok (message (msg.Data begins true eof ack j size) late)) z)) h
+      own i _ (λ z. close-flag-lapses begins eof ack late size (q ∙ ap (λ (j : ℕ). ok (message (msg.Data begins true eof ack j size) late)) z)) h
   by-message k (msg.Data begins false eof ack i size) late q h = none (only n i _) (only-quiet n i _ refl) h
 
   by-answer : (k : Call) (a : Result Report) → e .call ≡ k → e .answer ≡ a
@@ -109,7 +109,7 @@ module _ (s : Setup) (n : ℕ) (e : Entry) where
   by-answer k (ok (header-received far)) p q h = none [] refl h
   by-answer k (ok (message m late)) p q h = by-message k m late q h
   by-answer k (refused j) p q h = absurd (false≢true h)
-  by-answer k (violation j) p q h = violated j q
+  by-answer k (violation j) p q h = violation-lapses j q
 
   pub lapse-only : lapse s n e ≡ true → Lapsed n e
   lapse-only h = by-answer (e .call) (e .answer) refl refl h

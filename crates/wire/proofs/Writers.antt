@@ -15,7 +15,7 @@ use Rattle.laws.proofs.Results.{ok-same, refused-same, refused-not-ok}
 use Rattle.laws.proofs.Lists.{Bytes}
 use Rattle.wire.specs.declared.Role.{Role}
 use Rattle.wire.specs.declared.Message.{Message}
-use Rattle.wire.specs.Back.{GivenBack, Wrote}
+use Rattle.wire.specs.Back.{GivenBack, WroteMessage}
 use Rattle.wire.specs.Message.{readMessage, numberOf, header, writable, writeMessage}
 use Rattle.wire.specs.Connection.{readConnectionHeader, writeConnectionHeader}
 use Rattle.wire.proofs.Writing.{header-ok, header-no-room}
@@ -47,10 +47,10 @@ module _ (from : Role) (m : Message) (body room : List ℕ) where
       go false false w f = not-given w (rw w)
 
   -- what is written is read back as the same message
-  pub written-read : {k : ℕ} {out : List ℕ} → numberOf m < 65_536 → writeMessage from m body room ≡ (ok k, out) → Wrote from m body room k out
+  pub written-read : {k : ℕ} {out : List ℕ} → numberOf m < 65_536 → writeMessage from m body room ≡ (ok k, out) → WroteMessage from m body room k out
   written-read {k} {out} n e = go way
     where
-      go : Way from m body room → Wrote from m body room k out
+      go : Way from m body room → WroteMessage from m body room k out
       go (wrote w f p) =
           let q = sym p ∙ e in
           let same : 4 + length body ≡ k = ok-same (ap answer q) in

@@ -25,7 +25,7 @@ pub record NumberBack (n : ℕ) : Type 0 where
   pub reads : readConnectionHeader bytes ≡ ok n
 
 -- what a writer that wrote k bytes has done to its room: the message stands first, is read as itself, and the rest is as lent
-pub record Wrote (from : Role) (m : Message) (body room : List ℕ) (k : ℕ) (out : List ℕ) : Type 0 where
+pub record WroteMessage (from : Role) (m : Message) (body room : List ℕ) (k : ℕ) (out : List ℕ) : Type 0 where
   pub count : k ≡ 4 + length body
   pub fits : k ≤ length room
   pub stands : out ≡ header m ++ body ++ drop k room
