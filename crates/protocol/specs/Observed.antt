@@ -317,23 +317,22 @@ abbrev pub permitsTheirs : Ends → Seen → SessionMessage → Bool
 permitsTheirs unused v m = false
 permitsTheirs (ends o t) v m = permits t o (v .inbound) (rationOf (v .sends)) m
 
+-- of an open Data message what is said of its length, of another message the rest
+abbrev pub ifOpens : {A : Type 0} → SessionMessage → (ℕ → A) → A → A
+ifOpens (data-of n true close eof ack) begun rest = begun n
+ifOpens (data-of n false close eof ack) begun rest = rest
+ifOpens (increment-of n) begun rest = rest
+ifOpens (abort-of partial) begun rest = rest
+ifOpens close-of begun rest = rest
+ifOpens acknowledgment-of begun rest = rest
+
 -- our end may send the message now; an open Data of a client's spends the far start
 abbrev pub mayWrite : Role → Ration → Seen → SessionMessage → Bool
-mayWrite r far v (data-of n true close eof ack) = isClient r && mayOpen r (v .standing) && allows far n
-mayWrite r far v (data-of n false close eof ack) = permitsOurs r (v .standing) v (data-of n false close eof ack)
-mayWrite r far v (increment-of n) = permitsOurs r (v .standing) v (increment-of n)
-mayWrite r far v (abort-of partial) = permitsOurs r (v .standing) v (abort-of partial)
-mayWrite r far v close-of = permitsOurs r (v .standing) v close-of
-mayWrite r far v acknowledgment-of = permitsOurs r (v .standing) v acknowledgment-of
+mayWrite r far v m = ifOpens m (λ n. isClient r && mayOpen r (v .standing) && allows far n) (permitsOurs r (v .standing) v m)
 
 -- the far end may send the message now; an open Data of a client's spends our start
 abbrev pub mayArrive : Role → Ration → Seen → SessionMessage → Bool
-mayArrive r own v (data-of n true close eof ack) = isServer r && mayOpen r (v .standing) && allows own n
-mayArrive r own v (data-of n false close eof ack) = permitsTheirs (v .standing) v (data-of n false close eof ack)
-mayArrive r own v (increment-of n) = permitsTheirs (v .standing) v (increment-of n)
-mayArrive r own v (abort-of partial) = permitsTheirs (v .standing) v (abort-of partial)
-mayArrive r own v close-of = permitsTheirs (v .standing) v close-of
-mayArrive r own v acknowledgment-of = permitsTheirs (v .standing) v acknowledgment-of
+mayArrive r own v m = ifOpens m (λ n. isServer r && mayOpen r (v .standing) && allows own n) (permitsTheirs (v .standing) v m)
 
 -- ---- why a message may not arrive: it is wrong where the session stands (25), above the ration (26), or past the largest (27)
 
@@ -346,12 +345,7 @@ wrongOf (ends o t) close-of = 25
 wrongOf (ends o t) acknowledgment-of = 25
 
 abbrev pub wrongNumber : Role → Ends → SessionMessage → ℕ
-wrongNumber r st (data-of n true close eof ack) = pick (isServer r && mayOpen r st) 26 25
-wrongNumber r st (data-of n false close eof ack) = wrongOf st (data-of n false close eof ack)
-wrongNumber r st (increment-of n) = wrongOf st (increment-of n)
-wrongNumber r st (abort-of partial) = wrongOf st (abort-of partial)
-wrongNumber r st close-of = wrongOf st close-of
-wrongNumber r st acknowledgment-of = wrongOf st acknowledgment-of
+wrongNumber r st m = ifOpens m (λ n. pick (isServer r && mayOpen r st) 26 25) (wrongOf st m)
 
 -- the type and the flags are ones that an end of the role may send at all
 abbrev pub fromRole : Role → SessionMessage → Bool

@@ -7,7 +7,7 @@ use Rattle.ration.specs.declared.Ration.{Ration}
 use Rattle.ration.specs.declared.Ration.the-variants as ration
 use Rattle.state.specs.declared.Side.the-variants as side
 use Rattle.protocol.specs.Message.{data-of, increment-of, abort-of, close-of, acknowledgment-of}
-use Rattle.protocol.specs.Observed.{Event, opens, finishes, aborts, puts, received, wrote, Ends, unused, ends, Seen, observe}
+use Rattle.protocol.specs.Observed.{Event, opens, finishes, aborts, puts, received, wrote, Ends, unused, ends, Seen, observe, ifOpens}
 
 -- ---- ledgers: what was granted by increments, and what was spent by Data
 
@@ -87,12 +87,7 @@ putAfter l opens = []
 putAfter l finishes = l
 putAfter l aborts = l
 putAfter l (puts bytes) = l ++ bytes
-putAfter l (received (data-of n true close eof ack)) = []
-putAfter l (received (data-of n false close eof ack)) = l
-putAfter l (received (increment-of n)) = l
-putAfter l (received (abort-of partial)) = l
-putAfter l (received close-of) = l
-putAfter l (received acknowledgment-of) = l
+putAfter l (received m) = ifOpens m (λ n. []) l
 putAfter l (wrote m) = l
 
 -- `payload` is what follows the header that is written
@@ -101,12 +96,7 @@ payloadAfter payload l opens = []
 payloadAfter payload l finishes = l
 payloadAfter payload l aborts = l
 payloadAfter payload l (puts bytes) = l
-payloadAfter payload l (received (data-of n true close eof ack)) = []
-payloadAfter payload l (received (data-of n false close eof ack)) = l
-payloadAfter payload l (received (increment-of n)) = l
-payloadAfter payload l (received (abort-of partial)) = l
-payloadAfter payload l (received close-of) = l
-payloadAfter payload l (received acknowledgment-of) = l
+payloadAfter payload l (received m) = ifOpens m (λ n. []) l
 payloadAfter payload l (wrote (data-of n begins close eof ack)) = l ++ payload
 payloadAfter payload l (wrote (increment-of n)) = l
 payloadAfter payload l (wrote (abort-of partial)) = l
