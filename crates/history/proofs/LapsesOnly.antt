@@ -1,18 +1,18 @@
--- An entry is a lapse of a number's wait exactly in the ways that are named, and in no other: of every entry, whether a run has it or not.
+-- An entry is a lapse of a number's wait exactly in the ways that are named: of every entry, whether a run has it or not.
 use mathlib.Core.Path.{_≡_, refl, sym, ap, subst, _∙_}
 use mathlib.Core.Logic.{_↔_}
 use mathlib.Core.Bool.{Bool, true, false, _||_, false≢true}
 use mathlib.Core.List.{List, [], _∷_, _++_}
 use Prim.Native.Nat.{ℕ}
 use lib.Dec.{eqb}
-use borrow.Author.Tests.{eqb-true, eq-eqb}
+use borrow.Author.Tests.{eqb-true}
 use Rattle.laws.specs.Pick.{pick}
 use Rattle.laws.specs.Result.{Result, ok, refused, violation}
 use Rattle.laws.specs.Runs.{gather}
 use Rattle.wire.specs.declared.Message.{Message}
 use Rattle.wire.specs.declared.Message.the-variants as msg
 use Rattle.state.specs.declared.Setup.{Setup}
-use Rattle.protocol.specs.Message.{Scope, whole, of-session, scope, SessionMessage}
+use Rattle.protocol.specs.Message.{data-of, abort-of, close-of, Scope, whole, of-session, scope}
 use Rattle.protocol.specs.Judge.{Report, done, served, header-received, message, Output, header-out, sent}
 use Rattle.protocol.specs.Observed.{Event, opens, finishes, aborts, puts, received, wrote, lapses, anyLapse}
 use Rattle.history.specs.Log.{Call, start, open-session, put, finish, turn, grant, abort, close, shutdown, lost, receive, Entry}
@@ -20,6 +20,7 @@ use Rattle.history.specs.Log as log
 use Rattle.history.specs.Account.{only, inScope, outputSeen, eventsByAnswer, lineByAnswer, blankAccount}
 use Rattle.history.specs.Written.{allWritten}
 use Rattle.history.specs.Claims.{lapse}
+use Rattle.history.proofs.Written.{only-own}
 use Rattle.history.specs.Lapsed.{Lapsed, own-abort-lapses, abort-lapses, close-lapses, close-flag-lapses, lost-line-lapses, own-shutdown-lapses, shutdown-lapses, error-lapses, violation-lapses}
 
 any-append : (a b : List Event) → anyLapse (a ++ b) ≡ (anyLapse a || anyLapse b)
@@ -52,6 +53,13 @@ outputs-quiet : (n : ℕ) (outs : List Output) → anyLapse (gather (outputSeen 
 unfolding gather
 outputs-quiet n [] = refl
 outputs-quiet n (o ∷ os) = any-append (outputSeen n o) (gather (outputSeen n) os) ∙ rw (output-quiet n o) (outputs-quiet n os)
+
+over : (es : List Event) → (anyLapse es || true) ≡ true
+over es = or-true (anyLapse es)
+  where
+    or-true : (b : Bool) → (b || true) ≡ true
+    or-true true = refl
+    or-true false = refl
 
 module _ (s : Setup) (n : ℕ) (e : Entry) where
   abbrev seen : List Event
@@ -111,5 +119,29 @@ module _ (s : Setup) (n : ℕ) (e : Entry) where
   by-answer k (refused j) p q h = absurd (false≢true h)
   by-answer k (violation j) p q h = violation-lapses j q
 
-  pub lapse-only : lapse s n e ≡ true → Lapsed n e
-  lapse-only h = by-answer (e .call) (e .answer) refl refl h
+  lapses-so : lapse s n e ≡ true → Lapsed n e
+  lapses-so h = by-answer (e .call) (e .answer) refl refl h
+
+  -- what an entry of a call and an answer is
+  abbrev Is : Call → Result Report → Type 0
+  Is k a = (anyLapse (eventsByAnswer (s .role) n k (e .wrote) a) || lineByAnswer (blankAccount s .line) k a .over) ≡ true
+
+  -- what is told of the number itself is a lapse
+  first : (x : Event) → lapses x ≡ true → (anyLapse (only n n x ++ seen) || false) ≡ true
+  first x q =
+      ap (λ (es : List Event). anyLapse (es ++ seen) || false) (only-own n x)
+      ∙ ap (λ (b : Bool). (b || anyLapse seen) || false) q
+
+  is-lapse : Lapsed n e → lapse s n e ≡ true
+  is-lapse (own-abort-lapses partial room p q) = subst (λ (k : Call). Is k (e .answer)) (sym p) (subst (Is (abort n partial room)) (sym q) (first aborts refl))
+  is-lapse (abort-lapses partial late detail q) = subst (Is (e .call)) (sym q) (first (received (abort-of partial)) refl)
+  is-lapse (close-lapses late q) = subst (Is (e .call)) (sym q) (first (received close-of) refl)
+  is-lapse (close-flag-lapses begins eof ack late size q) = subst (Is (e .call)) (sym q) (first (received (data-of size begins true eof ack)) refl)
+  is-lapse (lost-line-lapses p q) = subst (λ (k : Call). Is k (e .answer)) (sym p) (subst (Is lost) (sym q) (over seen))
+  is-lapse (own-shutdown-lapses room p q) = subst (λ (k : Call). Is k (e .answer)) (sym p) (subst (Is (shutdown room)) (sym q) (over seen))
+  is-lapse (shutdown-lapses late detail q) = subst (Is (e .call)) (sym q) (over seen)
+  is-lapse (error-lapses late detail q) = subst (Is (e .call)) (sym q) (over seen)
+  is-lapse (violation-lapses number q) = subst (Is (e .call)) (sym q) refl
+
+  pub lapse-only : (lapse s n e ≡ true) ↔ Lapsed n e
+  lapse-only = (lapses-so, is-lapse)

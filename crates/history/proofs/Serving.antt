@@ -1,6 +1,6 @@
--- What a state of a run holds is what its log tells; put and turn leave zeros behind the bytes that wait in the slot they serve, and no
--- call changes another slot. From what each call that is taken does.
-use mathlib.Core.Path.{_≡_, sym, ap, _∙_, subst}
+-- What a state of a run holds is what its log tells; put and turn leave zeros behind the bytes that wait in the slot they serve, and nothing
+-- else of the queue changes. From what each call that is taken does.
+use mathlib.Core.Path.{_≡_, refl, sym, ap, _∙_, subst}
 use mathlib.Core.Bool.{false, not}
 use mathlib.Core.List.{List, []}
 use Prim.Native.Nat.{ℕ, _+_, _-_, _≤_, _<_}
@@ -26,7 +26,7 @@ use Rattle.protocol.specs.Judge.{Report, done, served, Effect, Decision, refuse
 use Rattle.protocol.specs.Call.{putRule, turnRule, nextReady}
 use Rattle.protocol.proofs.Plans.{Takes, takes-then, takes-map, takes-all, stops-all, settled}
 use Rattle.protocol.proofs.Slots.{put-length, turn-length, put-zeros, turn-zeros, slot-same}
-use Rattle.history.specs.Log.{Call, put, turn, State, Entry, next, out, Proper}
+use Rattle.history.specs.Log.{Call, start, open-session, put, finish, turn, grant, abort, close, shutdown, lost, receive, State, Entry, next, out, Proper}
 use Rattle.history.specs.Log as log
 use Rattle.history.specs.Account.{concerned}
 use Rattle.history.specs.Claims.{RestZero, SlotsServed, StateTold}
@@ -118,6 +118,22 @@ module _ (s : State) (o : Ok (setupOf (s .connection)) s) where
   others-by k (violate b) g n h z = ap (slot n) (queue-violated (s .connection) (s .queue) k b)
   others-by k (accept e) g n h z = g .frame n h (λ q. z (g .concerns ∙ q))
 
+  -- the other ten calls are not lent the queue
+  untouched-by : (k : Call) → ((n : ℕ) (bytes : List ℕ) → k ≡ put n bytes → ⊥) → ((room : List ℕ) → k ≡ turn room → ⊥) → next s k .queue ≡ s .queue
+  unfolding next
+  untouched-by (start room) p t = refl
+  untouched-by (open-session n) p t = refl
+  untouched-by (put n bytes) p t = absurd (p n bytes refl)
+  untouched-by (finish n) p t = refl
+  untouched-by (turn room) p t = absurd (t room refl)
+  untouched-by (grant n amount room) p t = refl
+  untouched-by (abort n partial room) p t = refl
+  untouched-by (close n room) p t = refl
+  untouched-by (log.ping cookie room) p t = refl
+  untouched-by (shutdown room) p t = refl
+  untouched-by lost p t = refl
+  untouched-by (receive input room) p t = refl
+
   served-slots : SlotsServed s
   unfolding PutBy TurnBy
   served-slots =
@@ -132,6 +148,7 @@ module _ (s : State) (o : Ok (setupOf (s .connection)) s) where
             λ k n h z. ap (λ (t : State). slot n (t .queue)) (next-is s k)
             ∙ others-by k (decide (s .connection) (s .queue) k) (decide-good s o k) n h
             (λ q. z (ap (λ (x : Entry). concerned k (x .answer)) (out-is s k) ∙ q));
+        untouched = untouched-by;
       }
 
 -- of every role, header number, queue and list of calls

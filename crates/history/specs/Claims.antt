@@ -1,5 +1,5 @@
 -- What is claimed of every log: of every role, header number, queue and list of calls, refused ones included; and of every
--- state, what a call that is not taken leaves, what any call leaves of its room, and which call is refused with 14.
+-- state, what a call that is not taken or ends the connection leaves, what any call leaves of its room, and which call is refused with 14.
 use Prim.Native.Nat.{ℕ, _+_, _≤_, _<_}
 use mathlib.Core.Path.{_≡_}
 use mathlib.Core.Logic.{_↔_}
@@ -69,7 +69,7 @@ abbrev pub has : ℕ → List ℕ → Bool
 has n [] = false
 has n (k ∷ ks) = eqb k n || has n ks
 
--- the connection is over with this entry
+-- this entry makes the connection over
 abbrev pub isOver : Setup → Entry → Bool
 isOver s e = lineAfter (blankAccount s .line) e .over
 
@@ -81,11 +81,12 @@ lapse s n e = anyLapse (events (s .role) n e) || isOver s e
 abbrev pub waitsOn : Setup → ℕ → Entry → Bool
 waitsOn s n e = not (has n (dataWritten s e)) && not (lapse s n e)
 
--- the number whose data message was written last, 127 at first
+-- the last of a list, or what stood before it
 abbrev pub lastOf : ℕ → List ℕ → ℕ
 lastOf i [] = i
 lastOf i (k ∷ ks) = lastOf k ks
 
+-- the number whose data message was written last, 127 at first
 abbrev pub lastServed : Setup → List Entry → ℕ
 lastServed s a = lastOf 127 (gather (dataWritten s) a)
 
@@ -212,7 +213,7 @@ AnswersExactly s queue log =
     (a c : List Entry) (e : Entry) → log ≡ a ++ (e ∷ c)
     → e .answer ≡ answerTold s queue (observed s (askedOf (e .call)) a) (e .call) (e .answer)
 
--- ---- a message is taken exactly where 002 lets the far end send it
+-- ---- a message is taken exactly where 002 lets the far end send it, but that an Acknowledgment need not have been asked for
 
 -- no check before the message refuses a receive
 pub record Listening (s : Setup) (a : List Entry) (room : ℕ) : Type 0 where
@@ -315,16 +316,18 @@ SendsAllowed s log = (a c : List Entry) (e : Entry) → log ≡ a ++ (e ∷ c) �
 abbrev pub StateTold : Setup → List ℕ → List Call → ℕ → Type 0
 StateTold s queue calls n = accountOf (run s queue calls) n ≡ observed s n (log.log s queue calls)
 
--- ---- put and turn leave zeros behind the bytes that wait in the slot they serve, and no call changes another slot
+-- ---- only put and turn touch the queue, and only the slot they serve, in which zeros stand behind the bytes that wait
 
 -- each byte of a number's slot behind those that wait
 abbrev pub RestZero : State → ℕ → Type 0
 RestZero t n = (i : ℕ) → at (t .connection) n .waiting ≤ i → i < slotSize → getD (slot n (t .queue)) i 1 ≡ 0
 
+-- of a state of a run
 pub record SlotsServed (s : State) : Type 0 where
   pub by-put : (n : ℕ) (bytes : List ℕ) → out s (put n bytes) .answer ≡ ok done → RestZero (next s (put n bytes)) n
   pub by-turn : (room : List ℕ) (n : ℕ) → out s (turn room) .answer ≡ ok (served n) → RestZero (next s (turn room)) n
   pub others : (k : Call) (n : ℕ) → n < 128 → (concerned k (out s k .answer) ≡ n → ⊥) → slot n (next s k .queue) ≡ slot n (s .queue)
+  pub untouched : (k : Call) → ((n : ℕ) (bytes : List ℕ) → k ≡ put n bytes → ⊥) → ((room : List ℕ) → k ≡ turn room → ⊥) → next s k .queue ≡ s .queue
 
 -- ---- a ration is its start, plus what was granted, less what was spent, counted since the session began
 

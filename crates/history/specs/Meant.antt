@@ -138,7 +138,7 @@ greets r (ok (message m late)) = false
 greets r (refused n) = false
 greets r (violation n) = isServer r
 
--- a PingAck answers one Ping, a Shutdown is a server's, an Error answers a violation; nothing else goes before the headers are
+-- a PingAck answers one Ping, a Shutdown is a server's, an Error answers a violation; nothing but an Error goes before the headers are
 -- exchanged
 abbrev pub wholeMayGo : Role → Bool → Result Report → ConnectionMessage → Bool
 wholeMayGo r up answer no-operation-of = up

@@ -1,4 +1,4 @@
--- Everything that stands in the bytes that a call wrote, one after another: our connection header, and messages.
+-- All that is read in the bytes that a call wrote, one after another: our connection header and messages, up to bytes that are neither.
 use Prim.Native.Nat.{ℕ, zero, suc, _+_}
 use mathlib.Core.List.{List, [], _∷_, _++_}
 use lib.ListN.{length, drop}

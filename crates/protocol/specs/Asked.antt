@@ -1,5 +1,5 @@
 -- What the local side may ask of a session number, and with which number it is refused else; told from calls, answers and
--- messages. No state of the engine is named.
+-- messages. No value of the engine's state is named.
 use Prim.Native.Nat.{ℕ, _+_}
 use mathlib.Core.Bool.{Bool, false, not, _&&_, _||_}
 use lib.ListN.{length}

@@ -1,4 +1,4 @@
--- What a message received does to the connection: the judging sees no bytes.
+-- What a call that is taken does and reports, what a violation does, and the judging of a message received, which sees no bytes.
 use Prim.Native.Nat.{ℕ}
 use mathlib.Core.Bool.{Bool, false, not}
 use mathlib.Core.List.{List, [], _∷_, map}

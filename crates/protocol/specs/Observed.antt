@@ -1,5 +1,5 @@
--- What calls, their answers and the messages on the line tell of the connection and of one session number. No state of the
--- engine is named.
+-- What calls, their answers and the messages on the line tell of the connection and of one session number. No value of the
+-- engine's state is named.
 use Prim.Native.Nat.{ℕ, _-_}
 use mathlib.Core.Bool.{Bool, true, false, not, _&&_, _||_}
 use mathlib.Core.List.{List, [], _∷_, _++_}
@@ -28,7 +28,7 @@ greeted no-header = false
 greeted own-header = false
 greeted (both-headers far) = true
 
--- the start that the far header grants; before it nothing is sent, so nothing rests on it
+-- the start that the far header grants; before it nothing is sent, so no answer depends on it
 abbrev pub startTold : Greeting → Ration
 startTold no-header = ration.Endless
 startTold own-header = ration.Endless
@@ -306,13 +306,13 @@ isAbort (abort-of partial) = true
 isAbort close-of = false
 isAbort acknowledgment-of = false
 
--- once the far end has terminated the session only an Abort may go, except that a finished client may go on; the far end may not
--- know yet that we have
+-- once the far end has terminated the session only an Abort may go, except that a finished client may go on
 abbrev pub permitsOurs : Role → Ends → Seen → SessionMessage → Bool
 permitsOurs r unused v m = false
 permitsOurs r (ends o t) v m =
     onlyIf (not (established t) && (unfinished o || isServer r)) (isAbort m) && permits o t (rationOf (v .sends)) (v .inbound) m
 
+-- the far end may not know yet that we have terminated the session, so that is not looked at
 abbrev pub permitsTheirs : Ends → Seen → SessionMessage → Bool
 permitsTheirs unused v m = false
 permitsTheirs (ends o t) v m = permits t o (v .inbound) (rationOf (v .sends)) m

@@ -1,4 +1,4 @@
--- What it is that bytes are read as what was written.
+-- When bytes are read back as what was written.
 use mathlib.Core.Path.{_≡_}
 use mathlib.Core.List.{List, _++_}
 use Prim.Native.Nat.{ℕ, _+_, _≤_}
