@@ -30,10 +30,10 @@ use Rattle.history.proofs.Decisions.{decide, payloadOf, nextBy, outBy, 
 use Rattle.history.specs.Written.{writtenUpTo, allWritten}
 use Rattle.history.specs.Account.{Account, events}
 use Rattle.history.specs.Claims.{ready, dataNumber, dataWritten, has, isOver, lapse, waitsOn, Waits}
-use Rattle.history.proofs.Good.{Ok, setupOf, ownOf, holds, readyAt}
+use Rattle.history.proofs.Good.{Ok, base, setupOf, ownOf, holds, readyAt}
 use Rattle.history.proofs.Sessions.{own-has}
 use Rattle.history.proofs.Receives.{GoodBy}
-use Rattle.history.proofs.Simulation.{decide-good, base, queue-refused, queue-violated, ended-holds, taken, taken-holds, accepted-holds, by-number, same-setup, own-ok, next-ok, observed-is, run-made}
+use Rattle.history.proofs.Simulation.{decide-good, queue-refused, queue-violated, ended-holds, taken, taken-holds, accepted-holds, by-number, same-setup, own-ok, next-ok, observed-is, run-made}
 
 -- ---- what is written by a call that is not taken
 

@@ -20,9 +20,9 @@ use Rattle.history.proofs.Decisions.{decide, nextBy, outBy, next-is, ou
 use Rattle.history.specs.Account.{Account, reported, blankAccount, accountAfter}
 use Rattle.history.specs.Fates.{endTold, fateByEntry, Fated, fatedAfter, fateTold}
 use Rattle.history.specs.Claims.{FatesTold}
-use Rattle.history.proofs.Good.{Ok, Good, setupOf, holds, accountOf, endedAs}
+use Rattle.history.proofs.Good.{Ok, base, Good, own-at, other-at, setupOf, holds, accountOf, endedAs}
 use Rattle.history.proofs.Receives.{GoodBy}
-use Rattle.history.proofs.Simulation.{decide-good, base, own-at, other-at, ended-at, by-number, own-ok, next-ok, next-account, made-ok, made-account, fresh-at}
+use Rattle.history.proofs.Simulation.{decide-good, ended-at, by-number, own-ok, next-ok, next-account, made-ok, made-account, fresh-at}
 
 append-first : (a b : List Event) → a ++ b ≡ [] → a ≡ []
 append-first [] b e = refl
