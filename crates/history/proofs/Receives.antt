@@ -154,15 +154,20 @@ module _ (s : State) (o : Ok (setupOf (s .connection)) s) (input room : List ℕ
   answers-go role.Client far er h = tt
   answers-go role.Server far er h = (and-both (and-both (ap not live) (h refl)) (ap isServer er), tt)
 
-  header-good : (r : Role) → roleOf (s .connection .stage) ≡ r → exchanged (s .connection .stage) ≡ false → (isServer r ≡ true → ungreeted (greetingOf (s .connection .stage)) ≡ true)
-      → (h : Result ℕ) → readConnectionHeader input ≡ h → GoodBy s (receive input room) (headerTaken (s .connection) r h)
-  header-good r er up greets (ok far) q =
+  -- a header with a number of 16 bits is taken
+  number-good : (r : Role) → roleOf (s .connection .stage) ≡ r → exchanged (s .connection .stage) ≡ false → (isServer r ≡ true → ungreeted (greetingOf (s .connection .stage)) ≡ true)
+      → (far : ℕ) → far < 65_536 → GoodBy s (receive input room) (headerTaken (s .connection) r (ok far))
+  number-good r er up greets far small =
       line-good s o (receive input room) (stage.Up r far) (s .connection .ping) goes-on (header-received far) (answering r (s .connection .own)) refl refl (sym er)
-      (header-number input far q) (inr up)
+      small (inr up)
       (λ m. refl) (answers r) refl live refl
       (answers-mean r ∙ sym (ap (λ (z : Role). pick (isServer z) (header-out (s .connection .own) ∷ []) [] ++ []) er))
       (in-order (subst (λ (z : Role). ReadInOrder z (bytesOfAll [] (answering r (s .connection .own))) (answering r (s .connection .own))) (sym er) (answers-read r)))
       (answers-go r far er greets) refl
+
+  header-good : (r : Role) → roleOf (s .connection .stage) ≡ r → exchanged (s .connection .stage) ≡ false → (isServer r ≡ true → ungreeted (greetingOf (s .connection .stage)) ≡ true)
+      → (h : Result ℕ) → readConnectionHeader input ≡ h → GoodBy s (receive input room) (headerTaken (s .connection) r h)
+  header-good r er up greets (ok far) q = number-good r er up greets far (header-number input far q)
   header-good r er up greets (refused n) q = tt
   header-good r er up greets (violation n) q = (refl, refl, live, begun)
 
