@@ -1,4 +1,4 @@
--- A violation as the log tells it: how it ends the connection, and what it means to write. That of one found by us, and what is written by each.
+-- A violation as the log tells it: how it ends the connection, and what it means to write. What we find is one, and what is then written.
 use mathlib.Core.Path.{_≡_, refl, sym, ap, _∙_, subst}
 use mathlib.Core.Bool.{Bool, true, false, not, true≢false, false≢true}
 use mathlib.Core.List.{List, [], _∷_, _++_}
@@ -46,7 +46,7 @@ pub record Found (s : State) (k : Call) (b : Breach) : Type 0 where
   pub live : s .connection .over ≡ false
   pub begun : unstarted (s .connection .stage) ≡ false
 
--- ---- what a violation means today
+-- ---- what a violation means: a lost line, answered with Error
 
 -- what we answer is what is told
 error-means : (z : Setup) (l : Line) (v : Seen) (k : Call) (n : ℕ) (st : Stage)
@@ -71,7 +71,7 @@ Told s k (refuse n) = Unit {0}
 Told s k (violate b) = Broken s k b
 Told s k (accept e) = Unit {0}
 
--- one found by us counts as a lost line and is answered with Error
+-- of one that we find
 pub breach-told : (s : State) (input room : List ℕ) (n : ℕ) → Told s (receive input room) (breach (s .connection) n)
 breach-told s input room n =
     let a = accountOf s 0 in
