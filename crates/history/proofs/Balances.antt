@@ -28,9 +28,9 @@ use Rattle.history.specs.Log as log
 use Rattle.history.proofs.Decisions.{decide, nextBy, outBy, next-is, out-is}
 use Rattle.history.specs.Account.{Line, lineAfter, Account, events, accountAfter, farOf}
 use Rattle.history.specs.Sums.{Sum, blankSum, sumAfter, summed}
-use Rattle.history.proofs.Good.{Ok, Good, setupOf, lineOf, holds, ownOf, farBy}
+use Rattle.history.proofs.Good.{Ok, base, Good, setupOf, lineOf, holds, ownOf, farBy}
 use Rattle.history.proofs.Receives.{GoodBy}
-use Rattle.history.proofs.Simulation.{decide-good, base, by-number, same-setup, own-ok, next-ok, next-account, made-ok, made-account}
+use Rattle.history.proofs.Simulation.{decide-good, by-number, same-setup, own-ok, next-ok, next-account, made-ok, made-account}
 
 -- ---- a session number that is idle balances whatever the start
 

@@ -6,7 +6,7 @@ use Prim.Native.Nat.{ℕ, _<_}
 use native.Mathlib.Omega.{arith}
 use lib.ListN.{length, take}
 use Rattle.laws.specs.Circle.{nearest}
-use Rattle.laws.specs.Runs.{run, gather}
+use Rattle.laws.specs.Runs.{run}
 use Rattle.laws.specs.Result.{ok, refused}
 use Rattle.laws.proofs.Circle.{nearest-lt, nearest-found, nearest-same}
 use Rattle.laws.proofs.Results.{ok-same, refused-same, refused-not-ok}
@@ -18,21 +18,20 @@ use Rattle.protocol.specs.Message.{numbered}
 use Rattle.protocol.specs.Receipt.{Taken}
 use Rattle.protocol.specs.Ask as ask
 use Rattle.protocol.specs.Connection.{at, farStart}
-use Rattle.protocol.specs.Judge.{Report, served, Output, Decision, refuse, violate, accept, setting-session}
+use Rattle.protocol.specs.Judge.{Report, served, Decision, refuse, violate, accept, setting-session}
 use Rattle.protocol.specs.Call.{nextReady}
-use Rattle.protocol.specs.Result.{bytesOfAll}
 use Rattle.protocol.specs.Observed.{greeted, Sending, isReady, dueBy}
 use Rattle.protocol.proofs.Views.{greeted-is, ready-look}
 use Rattle.history.specs.Log.{Call, start, open-session, put, finish, turn, grant, abort, close, shutdown, lost, receive, State, Entry, next, out, made, Proper}
 use Rattle.history.specs.Log as log
-use Rattle.history.proofs.Decisions.{decide, payloadOf, nextBy, outBy, next-is, out-is}
-use Rattle.history.specs.Written.{allWritten}
+use Rattle.history.proofs.Decisions.{decide, nextBy, outBy, next-is, out-is}
 use Rattle.history.specs.Account.{Line, Account, observed}
-use Rattle.history.specs.Claims.{ready, dataNumber, dataWritten, lastServed, waitingBytes, Serves, MayTurn, NothingReady, Turns, BoundedWaiting}
+use Rattle.history.specs.Claims.{ready, dataWritten, lastServed, waitingBytes, Serves, MayTurn, NothingReady, Turns, BoundedWaiting}
 use Rattle.history.proofs.Good.{isTurn, Ok, setupOf, lineOf, holds, one}
+use Rattle.history.proofs.Violations.{broken-no-data}
 use Rattle.history.proofs.Receives.{GoodBy}
 use Rattle.history.proofs.Simulation.{observed-is, run-made, made-ok, own-ok, same-setup, decide-good, next-ok, queue-refused, queue-violated}
-use Rattle.history.proofs.Fair.{nothing-data, error-data, ready-is, waits-log, own-log}
+use Rattle.history.proofs.Fair.{nothing-data, ready-is, waits-log, own-log}
 use Rattle.history.proofs.Entries.{At, entry-at, call-told}
 use Rattle.history.proofs.Never.{never-14}
 use Rattle.history.proofs.Turning.{Clear, Way, early, none, taken, way, due-bytes, waiting-look, turn-bytes, last-run}
@@ -56,9 +55,7 @@ not-turn (receive input room) h = refl
 module _ (s : State) (k : Call) where
   quiet-by : (d : Decision) → GoodBy s k d → isTurn k ≡ false → dataWritten (setupOf (s .connection)) (outBy s k d) ≡ []
   quiet-by (refuse n) g h = nothing-data (setupOf (s .connection) .role)
-  quiet-by (violate b) g h =
-      ap (λ (os : List Output). gather dataNumber (allWritten (setupOf (s .connection) .role) (bytesOfAll (payloadOf (s .queue) k (violate b)) os))) (g .0)
-      ∙ error-data (setupOf (s .connection) .role) (payloadOf (s .queue) k (violate b)) (s .connection .stage) (s .connection .own)
+  quiet-by (violate b) g h = broken-no-data s k b (g .told)
   quiet-by (accept e) g h = g .by-turn ∙ ap (λ (b : Bool). one b (e .number)) h
 
   long-by : (d : Decision) → GoodBy s k d → length (nextBy s k d .queue) ≡ length (s .queue)

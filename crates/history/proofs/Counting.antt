@@ -22,7 +22,6 @@ use Rattle.protocol.specs.Queue.{slot}
 use Rattle.protocol.specs.Message.{data-of, scope}
 use Rattle.protocol.specs.Connection.{at, roleOf, farStart}
 use Rattle.protocol.specs.Judge.{message, Output, sent, Effect, Decision, refuse, violate, accept}
-use Rattle.protocol.specs.Result.{bytesOfAll}
 use Rattle.protocol.specs.Observed.{Event, received, wrote, Sending, silent, sending, Ends, unused, ends, Seen, established, unfinished, mayArrive, lateFor}
 use Rattle.protocol.specs.Totals.{blankLedger, Balanced, Covers, Totals, addUp}
 use Rattle.protocol.proofs.Views.{start-told, endsOf, sendsOf, look}
@@ -31,7 +30,7 @@ use Rattle.protocol.proofs.Ledgers.{OutFair, InFair, out-covers, in-covers, ope
 use Rattle.protocol.proofs.Streams.{Flows, Fair, eof-flows}
 use Rattle.history.specs.Log.{Call, State, Entry, out, Proper}
 use Rattle.history.specs.Log as log
-use Rattle.history.proofs.Decisions.{decide, payloadOf, outBy, out-is}
+use Rattle.history.proofs.Decisions.{decide, outBy, out-is}
 use Rattle.history.specs.Written.{allWritten}
 use Rattle.history.specs.Account.{Account, only, events, reported, reportedOf, farOf, observed, outputSeen}
 use Rattle.history.specs.Sums.{Sum, blankSum, sumAfter, summed}
@@ -39,9 +38,10 @@ use Rattle.history.specs.Claims.{dataNumber, lateOf, RationLedger, PutSt
 use Rattle.history.proofs.InOrder.{reads-alone}
 use Rattle.history.proofs.Good.{isTurn, Good, setupOf, lineOf, holds, ownOf, one}
 use Rattle.history.proofs.Written.{only-own}
+use Rattle.history.proofs.Violations.{broken-no-data}
 use Rattle.history.proofs.Receives.{GoodBy}
 use Rattle.history.proofs.Simulation.{decide-good, same-setup, own-ok, run-made, observed-is}
-use Rattle.history.proofs.Fair.{nothing-data, error-data}
+use Rattle.history.proofs.Fair.{nothing-data}
 use Rattle.history.proofs.Entries.{of-entries}
 use Rattle.history.proofs.Balances.{Tracks, tracks}
 
@@ -159,10 +159,7 @@ module _ (s : State) (k : Call) (n : ℕ) where
   writes-by (refuse j) g before after b close eof ack size q =
       absurd (some-data before after b close eof ack n size (sym (ap (gather dataNumber) q) ∙ nothing-data (roleOf (s .connection .stage))))
   writes-by (violate x) g before after b close eof ack size q =
-      let r = roleOf (s .connection .stage) in
-      let p = payloadOf (s .queue) k (violate x) in
-      absurd (some-data before after b close eof ack n size
-      (sym (ap (gather dataNumber) q) ∙ ap (λ (os : List Output). gather dataNumber (allWritten r (bytesOfAll p os))) (g .0) ∙ error-data r p (s .connection .stage) (s .connection .own)))
+      absurd (some-data before after b close eof ack n size (sym (ap (gather dataNumber) q) ∙ broken-no-data s k x (g .told)))
   writes-by (accept e) g before after b close eof ack size q = writes-data e g before after b close eof ack size q
 
   takes-by : (d : Decision) → GoodBy s k d → TakesData (setupOf (s .connection)) d

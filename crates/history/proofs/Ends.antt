@@ -29,7 +29,8 @@ use Rattle.history.specs.Log.{Call, start, open-session, put, finish, tu
 use Rattle.history.specs.Log as log
 use Rattle.history.proofs.Decisions.{decide, queueAfter, nextBy, next-is}
 use Rattle.history.specs.Claims.{OnlyOver, OverLeaves}
-use Rattle.history.proofs.Simulation.{base, queue-violated}
+use Rattle.history.proofs.Good.{base}
+use Rattle.history.proofs.Simulation.{queue-violated}
 use Rattle.history.proofs.Leaves.{only-over}
 
 -- an effect that ends the connection touches nothing else

@@ -6,46 +6,34 @@ use Prim.Native.Nat.{ℕ, _≤_, _<_}
 use native.Mathlib.Omega.{arith}
 use lib.ListN.{length}
 use lib.Dec.{eqb}
-use Rattle.laws.specs.Pick.{pick}
 use Rattle.laws.specs.Runs.{run, logOf, fold, Every, gather}
 use Rattle.laws.proofs.Circle.{gap-le}
 use Rattle.laws.proofs.Runs.{Move, still, Scheduler, stays-run, waited, run-append, log-append, log-split}
 use Rattle.laws.proofs.Tests.{and-first, and-second, and-both, not-true, or-first, or-second, true-false}
 use Rattle.wire.specs.declared.Role.{Role}
-use Rattle.wire.specs.FirstByte.{kindOf}
-use Rattle.wire.specs.Message.{readMessage, parseHeader, typed, allowed}
-use Rattle.wire.specs.Connection.{parseConnectionHeader, readConnectionHeader}
-use Rattle.state.specs.declared.Stage.{Stage}
-use Rattle.state.specs.declared.Stage.the-variants as stage
 use Rattle.state.specs.declared.Setup.{Setup}
 use Rattle.protocol.specs.Queue.{slot}
 use Rattle.protocol.specs.Connection.{at, farStart, ended}
-use Rattle.protocol.specs.Judge.{Output, Ending, goes-on, ends, Effect, Decision, refuse, violate, accept, continued, errorAfter}
-use Rattle.protocol.specs.Result.{bytesOfAll}
+use Rattle.protocol.specs.Judge.{Ending, goes-on, ends, Effect, Decision, refuse, violate, accept, continued}
 use Rattle.protocol.specs.Observed.{isReady, anyLapse, Seen, observe}
 use Rattle.protocol.proofs.Views.{look}
 use Rattle.history.specs.Log.{Call, State, Entry, next, out, made, Proper}
 use Rattle.history.specs.Log as log
-use Rattle.history.proofs.Decisions.{decide, payloadOf, nextBy, outBy, next-is, out-is}
+use Rattle.history.proofs.Decisions.{decide, nextBy, outBy, next-is, out-is}
 use Rattle.history.specs.Written.{writtenUpTo, allWritten}
 use Rattle.history.specs.Account.{Account, events}
 use Rattle.history.specs.Claims.{ready, dataNumber, dataWritten, has, isOver, lapse, waitsOn, Waits}
-use Rattle.history.proofs.Good.{Ok, setupOf, ownOf, holds, readyAt}
+use Rattle.history.proofs.Good.{Ok, base, setupOf, ownOf, holds, readyAt}
 use Rattle.history.proofs.Sessions.{own-has}
+use Rattle.history.proofs.Violations.{broken-no-data}
 use Rattle.history.proofs.Receives.{GoodBy}
-use Rattle.history.proofs.Simulation.{decide-good, base, queue-refused, queue-violated, ended-holds, taken, taken-holds, accepted-holds, by-number, same-setup, own-ok, next-ok, observed-is, run-made}
+use Rattle.history.proofs.Simulation.{decide-good, queue-refused, queue-violated, ended-holds, taken, taken-holds, accepted-holds, by-number, same-setup, own-ok, next-ok, observed-is, run-made}
 
--- ---- what is written by a call that is not taken
+-- ---- what is written by a call that is refused
 
 pub nothing-data : (r : Role) → gather dataNumber (allWritten r []) ≡ []
 unfolding gather writtenUpTo
 nothing-data r = refl
-
-pub error-data : (r : Role) (payload : List ℕ) (st : Stage) (own : ℕ) → gather dataNumber (allWritten r (bytesOfAll payload (errorAfter st own))) ≡ []
-unfolding gather bytesOfAll writtenUpTo readMessage readConnectionHeader parseConnectionHeader parseHeader typed allowed kindOf pick
-error-data r payload (stage.Fresh q) own = refl
-error-data r payload stage.Started own = refl
-error-data r payload (stage.Up q far) own = refl
 
 -- ---- what an entry that is waited on tells
 
@@ -67,9 +55,7 @@ module _ (s : State) (o : Ok (setupOf (s .connection)) s) (k : Call) where
   moves-by : (d : Decision) → GoodBy s k d
       → Move (readyAt s) (s .connection .last) (nextBy s k d .connection .last) (dataWritten (setupOf (s .connection)) (outBy s k d))
   moves-by (refuse n) g = still (nothing-data (setupOf (s .connection) .role)) refl
-  moves-by (violate b) g =
-      still (ap (λ (os : List Output). gather dataNumber (allWritten (setupOf (s .connection) .role) (bytesOfAll (payloadOf (s .queue) k (violate b)) os))) (g .0)
-      ∙ error-data (setupOf (s .connection) .role) (payloadOf (s .queue) k (violate b)) (s .connection .stage) (s .connection .own)) refl
+  moves-by (violate b) g = still (broken-no-data s k b (g .told)) refl
   moves-by (accept e) g =
       subst (λ (m : ℕ). Move (readyAt s) (s .connection .last) m (dataWritten (setupOf (s .connection)) (outBy s k (accept e)))) (sym (marked (e .ending) e)) (g .moves)
 

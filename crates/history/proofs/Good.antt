@@ -1,10 +1,12 @@
 -- What every state of a run keeps, and what a call that is taken does to it; the statement that each call's step proves.
-use mathlib.Core.Path.{_≡_}
+use mathlib.Core.Path.{_≡_, sym}
 use mathlib.Core.Logic.{_⊎_}
 use mathlib.Core.Bool.{Bool, true, false}
 use mathlib.Core.List.{List, [], _∷_}
 use Prim.Native.Nat.{ℕ, _≤_, _<_}
-use lib.ListN.{length, drop}
+use native.Mathlib.Omega.{arith}
+use lib.ListN.{length, drop, set}
+use lib.Seq.{getD-set-same, getD-set-other}
 use Rattle.laws.specs.Circle.{gap}
 use Rattle.laws.specs.Result.{ok}
 use Rattle.laws.specs.Runs.{fold, Every}
@@ -14,6 +16,7 @@ use Rattle.ration.specs.Ration.{fromHeader}
 use Rattle.state.specs.declared.Stage.{Stage}
 use Rattle.state.specs.declared.Setup.{Setup}
 use Rattle.state.specs.declared.Connection.{Connection}
+use Rattle.state.specs.New.{blank}
 use Rattle.protocol.specs.Queue.{slot}
 use Rattle.protocol.specs.Receipt.{Taken}
 use Rattle.protocol.specs.Connection.{Cause, at, roleOf, exchanged, farNumber, farStart}
@@ -78,6 +81,10 @@ pub record Ok (setup : Setup) (s : State) : Type 0 where
 
 -- ---- a call that is taken
 
+-- the connection after an effect, before it may end
+abbrev pub base : Connection → Effect → Connection
+base c e = record { sessions = set (c .sessions) (e .number) (e .session); stage = e .stage; over = c .over; own = c .own; last = e .last; ping = e .ping }
+
 abbrev pub endedAs : Ending → Ended
 endedAs goes-on = not-ended
 endedAs (ends cause) = endedBy cause
@@ -125,6 +132,14 @@ pub record Good (setup : Setup) (s : State) (k : Call) (e : Effect) : Type 0 whe
   pub allowed : Every (mayGo setup (accountOf s (e .number)) (outBy s k (accept e))) (e .outs)
   pub legal : AllLegal (setup .role) (ownOf setup) (farStart (s .connection)) (drop 4 (outBy s k (accept e) .wrote)) (holds s (e .number))
       (events (setup .role) (e .number) (outBy s k (accept e)))
+
+-- its sessions: the one that the call concerns, and each other
+module _ (s : State) (o : Ok (setupOf (s .connection)) s) (k : Call) (e : Effect) (g : Good (setupOf (s .connection)) s k e) where
+  pub own-at : at (base (s .connection) e) (e .number) ≡ e .session
+  own-at = getD-set-same (s .connection .sessions) (e .number) (e .session) blank (let h = g .inside in let z = o .size in omega arith)
+
+  pub other-at : (n : ℕ) → (e .number ≡ n → ⊥) → at (base (s .connection) e) n ≡ at (s .connection) n
+  other-at n d = getD-set-other (s .connection .sessions) (e .number) n (e .session) blank (λ z. d (sym z))
 
 -- the mark stays, or moves to the nearest ready number, whose Data message is written
 abbrev pub Mark : State → ℕ → ℕ → Bool → Type 0

@@ -4,27 +4,26 @@ use mathlib.Core.Bool.{Bool, true, false, not, true≢false}
 use mathlib.Core.List.{List, []}
 use Prim.Native.Nat.{ℕ, _≤_, _<_}
 use native.Mathlib.Omega.{arith}
-use lib.Dec.{eqb, ltb, leb}
+use lib.Dec.{eqb, ltb}
 use borrow.Author.Tests.{ltb-true, leb-true}
 use Rattle.laws.specs.Result.{ok, refused, violation}
 use Rattle.laws.proofs.Tests.{and-second}
 use Rattle.laws.proofs.Results.{refused-same, violation-same, refused-not-ok, violation-not-ok, violation-not-refused}
 use Rattle.state.specs.declared.Connection.{Connection}
 use Rattle.state.specs.declared.Session.{Session}
-use Rattle.state.specs.declared.Stage.{Stage}
-use Rattle.state.specs.declared.Stage.the-variants as stage
 use Rattle.protocol.specs.Plan.{Plan, settle}
 use Rattle.protocol.specs.Connection.{Cause, shutdown-received, error-received, own-shutdown, line-lost, at, wellFormed, ending, ended}
-use Rattle.protocol.specs.Judge.{Report, done, served, header-received, message, Effect, Breach, Decision, refuse, violate, accept, errorAfter}
+use Rattle.protocol.specs.Judge.{Report, done, served, header-received, message, Effect, Decision, refuse, violate, accept}
 use Rattle.laws.specs.Room.{overlaid}
-use Rattle.protocol.specs.Result.{Given, bytesOfAll, extentOf}
+use Rattle.protocol.specs.Result.{Given, extentOf}
 use Rattle.history.specs.Log.{Call, start, open-session, put, finish, turn, grant, abort, close, shutdown, lost, receive, roomOf, State, Entry}
 use Rattle.history.specs.Log as log
-use Rattle.history.proofs.Decisions.{decide, payloadOf, nextBy, outBy, called-is, next-is, out-is}
+use Rattle.history.proofs.Decisions.{decide, nextBy, outBy, called-is, next-is, out-is}
 use Rattle.protocol.proofs.Plans.{settled, stops-all, takes-all}
 use Rattle.history.specs.Claims.{takesInput, SameButOutcome, OnlyOver, errorBytes, RefusedLeaves}
+use Rattle.history.proofs.Violations.{broken-bytes}
 use Rattle.history.proofs.Simulation.{ended-at, queue-refused, queue-violated}
-use Rattle.history.proofs.Rulings.{Ruled, decide-ruled, decide-ill}
+use Rattle.history.proofs.Rulings.{Breached, Ruled, decide-ruled, decide-ill}
 
 -- a refusal is below 20
 abbrev Below : Decision → Type 0
@@ -32,16 +31,16 @@ Below (refuse n) = n < 20
 Below (violate b) = Unit {0}
 Below (accept e) = Unit {0}
 
--- a violation is a breach from 20 up: a lost line, answered with Error
-abbrev Breaches : Connection → Decision → Type 0
-Breaches c (refuse n) = Unit {0}
-Breaches c (violate b) = (leb 20 (b .code) ≡ true) × (b .cause ≡ line-lost) × (b .reply ≡ errorAfter (c .stage) (c .own))
-Breaches c (accept e) = Unit {0}
+-- a violation is one from 20 up, as the log tells it
+abbrev Breaches : State → Call → Decision → Type 0
+Breaches s k (refuse n) = Unit {0}
+Breaches s k (violate b) = Breached s k b
+Breaches s k (accept e) = Unit {0}
 
-by-rule : (c : Connection) (d : Decision) → Ruled c d → Below d × Breaches c d
-by-rule c (refuse n) h = (ltb-true n 20 (and-second (not (eqb n 14)) (ltb n 20) h), tt)
-by-rule c (violate b) h = (tt, h)
-by-rule c (accept e) h = (tt, tt)
+by-rule : (s : State) (k : Call) (d : Decision) → Ruled s k d → Below d × Breaches s k d
+by-rule s k (refuse n) h = (ltb-true n 20 (and-second (not (eqb n 14)) (ltb n 20) h), tt)
+by-rule s k (violate b) h = (tt, h)
+by-rule s k (accept e) h = (tt, tt)
 
 -- the end of a connection touches outcomes alone
 same-ending : (cause : Cause) (x : Session) → SameButOutcome (ending cause x) x
@@ -60,12 +59,6 @@ only-over cause c =
       ping = refl;
       sessions = λ n. subst (λ (x : Session). SameButOutcome x (at c n)) (sym (ended-at cause c n)) (same-ending cause (at c n));
     }
-
-error-bytes : (st : Stage) (own : ℕ) → bytesOfAll [] (errorAfter st own) ≡ errorBytes st own
-unfolding bytesOfAll
-error-bytes (stage.Fresh r) own = refl
-error-bytes stage.Started own = refl
-error-bytes (stage.Up r far) own = refl
 
 -- ---- only a receive finds a violation
 
@@ -91,21 +84,6 @@ violated-receive c q (shutdown room) h = absurd (local-not _ h)
 violated-receive c q lost h = absurd (local-not _ h)
 violated-receive c q (receive input room) h = (input, room, refl)
 
--- a call that is not taken has no payload
-no-payload : (q : List ℕ) (k : Call) (b : Breach) → payloadOf q k (violate b) ≡ []
-no-payload q (start room) b = refl
-no-payload q (open-session n) b = refl
-no-payload q (put n bytes) b = refl
-no-payload q (finish n) b = refl
-no-payload q (turn room) b = refl
-no-payload q (grant n amount room) b = refl
-no-payload q (abort n partial room) b = refl
-no-payload q (close n room) b = refl
-no-payload q (log.ping cookie room) b = refl
-no-payload q (shutdown room) b = refl
-no-payload q lost b = refl
-no-payload q (receive input room) b = refl
-
 module _ (s : State) (k : Call) where
   -- what a refusal leaves, by its number
   refusal-by : (d : Decision) → Below d → (n : ℕ) → outBy s k d .answer ≡ refused n
@@ -119,15 +97,15 @@ module _ (s : State) (k : Call) where
   refusal-by (violate b) h n e = absurd (violation-not-refused e)
   refusal-by (accept x) h n e = absurd (refused-not-ok (sym e))
 
-  violated-by : (d : Decision) → Breaches (s .connection) d → (n : ℕ) → outBy s k d .answer ≡ violation n
+  violated-by : (d : Decision) → Breaches s k d → (n : ℕ) → outBy s k d .answer ≡ violation n
       → (20 ≤ n) × OnlyOver (s .connection) (nextBy s k d .connection) × (nextBy s k d .queue ≡ s .queue)
       × (outBy s k d .wrote ≡ errorBytes (s .connection .stage) (s .connection .own))
   violated-by (refuse j) h n e = absurd (violation-not-refused (sym e))
   violated-by (violate b) h n e = (
-    subst (λ (m : ℕ). 20 ≤ m) (violation-same e) (leb-true 20 (b .code) (h .0)),
+    subst (λ (m : ℕ). 20 ≤ m) (violation-same e) (leb-true 20 (b .code) (h .high)),
     only-over (b .cause) (s .connection),
     queue-violated (s .connection) (s .queue) k b,
-    ap (λ (p : List ℕ). bytesOfAll p (b .reply)) (no-payload (s .queue) k b) ∙ ap (bytesOfAll []) (h .2) ∙ error-bytes (s .connection .stage) (s .connection .own),
+    broken-bytes s k b (h .told),
   )
   violated-by (accept x) h n e = absurd (violation-not-ok (sym e))
 
@@ -149,10 +127,10 @@ module _ (s : State) (k : Call) where
   violation-of (accept x) n e = violation-not-ok (sym e)
 
   -- well formed or not
-  ruled : (b : Bool) → wellFormed (s .connection) ≡ b → Below (decide (s .connection) (s .queue) k) × Breaches (s .connection) (decide (s .connection) (s .queue) k)
-  ruled true e = by-rule (s .connection) (decide (s .connection) (s .queue) k) (decide-ruled (s .connection) e (s .queue) k)
+  ruled : (b : Bool) → wellFormed (s .connection) ≡ b → Below (decide (s .connection) (s .queue) k) × Breaches s k (decide (s .connection) (s .queue) k)
+  ruled true e = by-rule s k (decide (s .connection) (s .queue) k) (decide-ruled s e k)
   ruled false e =
-      subst (λ (d : Decision). Below d × Breaches (s .connection) d) (sym (decide-ill (s .connection) e (s .queue) k))
+      subst (λ (d : Decision). Below d × Breaches s k d) (sym (decide-ill s e k))
       (let h : 14 < 20 = omega arith in (h, tt))
 
   pub refused-leaves : RefusedLeaves s k

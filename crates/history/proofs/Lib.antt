@@ -7,6 +7,7 @@ pub mod Sessions
 pub mod Steps
 pub mod Moves
 pub mod Lines
+pub mod Violations
 pub mod Receives
 pub mod Simulation
 pub mod Fair

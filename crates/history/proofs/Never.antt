@@ -16,7 +16,7 @@ use Rattle.history.proofs.Good.{Ok}
 use Rattle.history.proofs.Simulation.{ok-formed}
 use Rattle.history.proofs.Rulings.{Ruled, decide-ruled, decide-ill}
 
-never : (s : State) (k : Call) (d : Decision) → Ruled (s .connection) d → outBy s k d .answer ≡ refused 14 → ⊥
+never : (s : State) (k : Call) (d : Decision) → Ruled s k d → outBy s k d .answer ≡ refused 14 → ⊥
 never s k (refuse n) f e = false≢true (sym (ap isLow (refused-same e)) ∙ f)
 never s k (violate b) f e = violation-not-refused e
 never s k (accept x) f e = refused-not-ok (sym e)
@@ -25,11 +25,11 @@ never s k (accept x) f e = refused-not-ok (sym e)
 pub refuses-14 : (s : State) (k : Call) → Refuses14 s k
 refuses-14 s k = (
   λ e. go (wellFormed (s .connection)) refl (rw out-is at e),
-  λ ill. rw out-is (ap (λ (d : Decision). outBy s k d .answer) (decide-ill (s .connection) ill (s .queue) k)),
+  λ ill. rw out-is (ap (λ (d : Decision). outBy s k d .answer) (decide-ill s ill k)),
 )
   where
     go : (b : Bool) → wellFormed (s .connection) ≡ b → outBy s k (decide (s .connection) (s .queue) k) .answer ≡ refused 14 → wellFormed (s .connection) ≡ false
-    go true formed e = absurd (never s k (decide (s .connection) (s .queue) k) (decide-ruled (s .connection) formed (s .queue) k) e)
+    go true formed e = absurd (never s k (decide (s .connection) (s .queue) k) (decide-ruled s formed k) e)
     go false ill e = ill
 
 pub never-14 : (setup : Setup) (s : State) (k : Call) → Ok setup s → out s k .answer ≡ refused 14 → ⊥

@@ -9,7 +9,7 @@ use Rattle.state.specs.declared.Session.{Session}
 use Rattle.state.specs.declared.Setup.{Setup}
 use Rattle.state.specs.declared.Connection.{Connection}
 use Rattle.protocol.specs.Queue.{slot}
-use Rattle.protocol.specs.Connection.{Cause, line-lost, at, farStart, ending, ended}
+use Rattle.protocol.specs.Connection.{Cause, at, farStart, ending}
 use Rattle.protocol.specs.Judge.{Ending, goes-on, ends, Effect, Decision, refuse, violate, accept, continued}
 use Rattle.protocol.specs.Observed.{Event}
 use Rattle.protocol.specs.Asked.{isUnsent}
@@ -20,9 +20,9 @@ use Rattle.history.proofs.Decisions.{decide, nextBy, outBy, next-is, ou
 use Rattle.history.specs.Account.{Account, reported, blankAccount, accountAfter}
 use Rattle.history.specs.Fates.{endTold, fateByEntry, Fated, fatedAfter, fateTold}
 use Rattle.history.specs.Claims.{FatesTold}
-use Rattle.history.proofs.Good.{Ok, Good, setupOf, holds, accountOf, endedAs}
+use Rattle.history.proofs.Good.{Ok, base, Good, own-at, other-at, setupOf, holds, accountOf, endedAs}
 use Rattle.history.proofs.Receives.{GoodBy}
-use Rattle.history.proofs.Simulation.{decide-good, base, own-at, other-at, ended-at, by-number, own-ok, next-ok, next-account, made-ok, made-account, fresh-at}
+use Rattle.history.proofs.Simulation.{decide-good, ended-at, by-number, own-ok, next-ok, next-account, made-ok, made-account, fresh-at}
 
 append-first : (a b : List Event) → a ++ b ≡ [] → a ≡ []
 append-first [] b e = refl
@@ -69,8 +69,9 @@ module _ (s : State) (o : Ok (setupOf (s .connection)) s) (k : Call) where
   unfolding fold
   fate-by (refuse j) g n h = refl
   fate-by (violate b) g n h =
-      ap (λ (c : Cause). outcomeAt (ended c (s .connection)) n) (g .1) ∙ ap (λ (x : Session). fateOf (x .outcome)) (ended-at line-lost (s .connection) n)
-      ∙ ending-fate (farStart (s .connection)) (at (s .connection) n) (slot n (s .queue)) line-lost
+      ap (λ (x : Session). fateOf (x .outcome)) (ended-at (b .cause) (s .connection) n)
+      ∙ ending-fate (farStart (s .connection)) (at (s .connection) n) (slot n (s .queue)) (b .cause)
+      ∙ ap (λ (w : Ended). fateEnded (holds s n) w (outcomeAt (s .connection) n)) (g .told .ends-so)
   fate-by (accept e) g n h = fate-taken e g n h (e .ending) refl
 
 module _ (setup : Setup) (n : ℕ) (h : n < 128) where

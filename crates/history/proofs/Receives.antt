@@ -28,8 +28,8 @@ use Rattle.protocol.specs.Queue.{slot}
 use Rattle.protocol.specs.Plan.{Plan, settle}
 use Rattle.protocol.specs.Message.{ConnectionMessage, no-operation-of, shutdown-of, error-of, ping-of, ping-ack-of, SessionMessage, Scope, whole, of-session, scope, numbered}
 use Rattle.protocol.specs.Receipt.{Taken, receipt}
-use Rattle.protocol.specs.Connection.{otherEnd, shutdown-received, error-received, line-lost, at, roleOf, exchanged, farStart, ownStart}
-use Rattle.protocol.specs.Judge.{unchanged, header-received, message, Output, header-out, sent, Ending, goes-on, ends, Decision, refuse, violate, accept, setting-session, continued, errorAfter, breach, judgeWhole, judgeScope, judge}
+use Rattle.protocol.specs.Connection.{otherEnd, shutdown-received, error-received, at, roleOf, exchanged, farStart, ownStart}
+use Rattle.protocol.specs.Judge.{unchanged, header-received, message, Output, header-out, sent, Ending, goes-on, ends, Decision, refuse, violate, accept, setting-session, continued, breach, judgeWhole, judgeScope, judge}
 use Rattle.protocol.specs.Call.{unstarted, answering, headerTaken, messageTaken, reading, receiveGate, receiveRule}
 use Rattle.protocol.specs.Result.{bytesOfAll}
 use Rattle.protocol.specs.Observed.{Event, received, repliesAt, mayArrive, wrongNumber}
@@ -54,20 +54,16 @@ use Rattle.history.proofs.InOrder.{in-order}
 use Rattle.history.proofs.Written.{Sendable, sent-read-back, opening-read-back, nothing-read-back, only-own, only-other}
 use Rattle.history.proofs.Steps.{formed-up, own-range, far-range, Fates, one-fate}
 use Rattle.history.proofs.Lines.{OfLine, line-good}
+use Rattle.history.proofs.Violations.{Found, breach-told}
 
--- a decision that takes something keeps what is observed, and a violation is answered with Error and counts as a lost line
+-- a decision that takes something keeps what is observed, and a violation is as the log tells it
 abbrev pub GoodBy : State → Call → Decision → Type 0
 GoodBy s k (refuse n) = Unit {0}
-GoodBy s k (violate b) =
-    (b .reply ≡ errorAfter (s .connection .stage) (s .connection .own)) × (b .cause ≡ line-lost) × (s .connection .over ≡ false) × (unstarted (s .connection .stage) ≡ false)
+GoodBy s k (violate b) = Found s k b
 GoodBy s k (accept e) = Good (setupOf (s .connection)) s k e
 
 pub settled : {A : Type 0} (s : State) (k : Call) (f : A → Decision) (p : Plan A) → Takes (λ a. GoodBy s k (f a)) p → GoodBy s k (settle refuse f p)
 settled s k f p h = plans.settled (GoodBy s k) refuse f p (stops-all (λ n. tt) p) h
-
-judged : {A : Type 0} (s : State) (k : Call) (f : A → Decision) (p : Plan A) → s .connection .over ≡ false → unstarted (s .connection .stage) ≡ false → Takes (λ a. GoodBy s k (f a)) p
-    → GoodBy s k (settle (breach (s .connection)) f p)
-judged s k f p live begun h = plans.settled (GoodBy s k) (breach (s .connection)) f p (stops-all (λ n. (refl, refl, live, begun)) p) h
 
 -- ---- which session a message is of
 
@@ -133,6 +129,12 @@ possible r m i x e f = go r m e (f .sender) (f .flags)
     go role.Server (msg.Data b c g a j n) e s f = subst (Possible role.Server) (inner e) (not-closing b c g a f)
 
 module _ (s : State) (o : Ok (setupOf (s .connection)) s) (input room : List ℕ) (live : s .connection .over ≡ false) (begun : unstarted (s .connection .stage) ≡ false) where
+  found : (n : ℕ) → GoodBy s (receive input room) (breach (s .connection) n)
+  found n = record { told = breach-told s input room n; live = live; begun = begun }
+
+  judged : {A : Type 0} (f : A → Decision) (p : Plan A) → Takes (λ a. GoodBy s (receive input room) (f a)) p → GoodBy s (receive input room) (settle (breach (s .connection)) f p)
+  judged f p h = plans.settled (GoodBy s (receive input room)) (breach (s .connection)) f p (stops-all found p) h
+
   -- ---- a connection header
 
   answers : (r : Role) → OfLine (answering r (s .connection .own))
@@ -154,17 +156,22 @@ module _ (s : State) (o : Ok (setupOf (s .connection)) s) (input room : List ℕ
   answers-go role.Client far er h = tt
   answers-go role.Server far er h = (and-both (and-both (ap not live) (h refl)) (ap isServer er), tt)
 
-  header-good : (r : Role) → roleOf (s .connection .stage) ≡ r → exchanged (s .connection .stage) ≡ false → (isServer r ≡ true → ungreeted (greetingOf (s .connection .stage)) ≡ true)
-      → (h : Result ℕ) → readConnectionHeader input ≡ h → GoodBy s (receive input room) (headerTaken (s .connection) r h)
-  header-good r er up greets (ok far) q =
+  -- a header with a number of 16 bits is taken
+  number-good : (r : Role) → roleOf (s .connection .stage) ≡ r → exchanged (s .connection .stage) ≡ false → (isServer r ≡ true → ungreeted (greetingOf (s .connection .stage)) ≡ true)
+      → (far : ℕ) → far < 65_536 → GoodBy s (receive input room) (headerTaken (s .connection) r (ok far))
+  number-good r er up greets far small =
       line-good s o (receive input room) (stage.Up r far) (s .connection .ping) goes-on (header-received far) (answering r (s .connection .own)) refl refl (sym er)
-      (header-number input far q) (inr up)
+      small (inr up)
       (λ m. refl) (answers r) refl live refl
       (answers-mean r ∙ sym (ap (λ (z : Role). pick (isServer z) (header-out (s .connection .own) ∷ []) [] ++ []) er))
       (in-order (subst (λ (z : Role). ReadInOrder z (bytesOfAll [] (answering r (s .connection .own))) (answering r (s .connection .own))) (sym er) (answers-read r)))
       (answers-go r far er greets) refl
+
+  header-good : (r : Role) → roleOf (s .connection .stage) ≡ r → exchanged (s .connection .stage) ≡ false → (isServer r ≡ true → ungreeted (greetingOf (s .connection .stage)) ≡ true)
+      → (h : Result ℕ) → readConnectionHeader input ≡ h → GoodBy s (receive input room) (headerTaken (s .connection) r h)
+  header-good r er up greets (ok far) q = number-good r er up greets far (header-number input far q)
   header-good r er up greets (refused n) q = tt
-  header-good r er up greets (violation n) q = (refl, refl, live, begun)
+  header-good r er up greets (violation n) q = found n
 
   -- ---- a message
 
@@ -238,9 +245,9 @@ module _ (s : State) (o : Ok (setupOf (s .connection)) s) (input room : List ℕ
 
   judge-good : (m : Message) (z : Scope) → scope m ≡ z → exchanged (s .connection .stage) ≡ true → Sent (otherEnd (roleOf (s .connection .stage))) m
       → GoodBy s (receive input room) (judgeScope (s .connection) m z)
-  judge-good m (whole x) e up w = judged s (receive input room) accept (judgeWhole (s .connection) m x) live begun (whole-good m x e up w)
+  judge-good m (whole x) e up w = judged accept (judgeWhole (s .connection) m x) (whole-good m x e up w)
   judge-good m (of-session i sm) e up w =
-      judged s (receive input room) (λ t. accept (setting-session (s .connection) i (s .connection .last) (message m (t .late)) t)) rule live begun
+      judged (λ t. accept (setting-session (s .connection) i (s .connection .last) (message m (t .late)) t)) rule
       (takes-map
       (λ t z. session-good (setupOf (s .connection)) s (receive input room) i (s .connection .last) (message m (t .late)) (received sm ∷ []) false t o
       (session-message m i sm e up hi t z)) rule
@@ -283,7 +290,7 @@ module _ (s : State) (o : Ok (setupOf (s .connection)) s) (input room : List ℕ
   unfolding judge
   message-good (ok m) q up = judge-good m (scope m) refl up (message-sent (otherEnd (roleOf (s .connection .stage))) input m q)
   message-good (refused n) q up = tt
-  message-good (violation n) q up = (refl, refl, live, begun)
+  message-good (violation n) q up = found n
 
   reading-good : (st : Stage) → s .connection .stage ≡ st → GoodBy s (receive input room) (reading (s .connection) input st)
   reading-good (stage.Fresh r) e = header-good r (ap roleOf e) (ap exchanged e) (λ _. ap (λ (z : Stage). ungreeted (greetingOf z)) e) (readConnectionHeader input) refl

@@ -33,7 +33,7 @@ use Rattle.protocol.specs.Receipt.{Taken, receipt}
 use Rattle.protocol.specs.Ask.{grantAsk, abortAsk, closeAsk, turnOf, turnAsk}
 use Rattle.protocol.specs.Connection.{otherEnd, at, roleOf, ownStart, farStart}
 use Rattle.protocol.specs.Observed.{Ends, unused, ends, answered, repliesAt}
-use Rattle.protocol.specs.Judge.{Report, done, served, message, sent, Effect, Decision, refuse, accept, setting-session, errorAfter, breach, judgeWhole, judgeScope, judge}
+use Rattle.protocol.specs.Judge.{Report, done, served, message, sent, Effect, Decision, refuse, accept, setting-session, breach, judgeWhole, judgeScope, judge}
 use Rattle.protocol.specs.Call.{startRule, turnRule, grantRule, abortRule, closeRule, pingRule, shutdownRule, receiveRule, nextReady, receiveGate, headerTaken, messageTaken, reading}
 use Rattle.protocol.specs.Result.{Given, decided, turnPayload, bytesOfAll, writtenBy}
 use Rattle.protocol.proofs.Plans.{Takes, takes-then, takes-map, stops-all, settled}
@@ -43,6 +43,7 @@ use Rattle.protocol.proofs.Sends.{Sends, grant-sends, abort-sends, close-sends,
 use Rattle.history.specs.Log.{Call, start, open-session, put, finish, turn, grant, abort, close, shutdown, lost, receive, roomOf, State, Entry, called}
 use Rattle.history.specs.Log as log
 use Rattle.history.specs.Claims.{RoomBehind}
+use Rattle.history.proofs.Violations.{breach-told, broken-fits}
 use Rattle.history.proofs.Decisions.{decide, outBy, open-silent, put-silent, finish-silent, lost-silent, called-is, wrote-is, out-is}
 
 -- ---- how long the bytes of a message are
@@ -142,57 +143,6 @@ module _ (c : Connection) (room : ℕ) where
   unfolding shutdownRule
   shutdown-fits = by-plan _ (λ _ _ _ h _. message-fits (msg.Shutdown 0) (ltb-false room 4 h))
 
-  -- ---- a receive, in a room of twelve
-
-  module _ (wide : 12 ≤ room) where
-    error-fits : (st : Stage) (own : ℕ) → length (bytesOfAll [] (errorAfter st own)) ≤ room
-    unfolding bytesOfAll
-    error-fits (stage.Fresh r) own = omega arith
-    error-fits stage.Started own = omega arith
-    error-fits (stage.Up r far) own = omega arith
-
-    breach-fits : (n : ℕ) → Fits room (breach c n)
-    breach-fits n = error-fits (c .stage) (c .own)
-
-    header-fits : (r : Role) (h : Result ℕ) → Fits room (headerTaken c r h)
-    unfolding bytesOfAll
-    header-fits role.Client (ok far) = omega arith
-    header-fits role.Server (ok far) = omega arith
-    header-fits r (refused n) = omega arith
-    header-fits r (violation n) = breach-fits n
-
-    whole-fits : (m : Message) (w : ConnectionMessage) → Takes (λ e. Fits room (accept e)) (judgeWhole c m w)
-    whole-fits m no-operation-of = nothing-fits
-    whole-fits m shutdown-of = nothing-fits
-    whole-fits m error-of = nothing-fits
-    whole-fits m (ping-of k) = message-fits (msg.PingAck k) (omega arith)
-    whole-fits m (ping-ack-of k) = λ _. nothing-fits
-
-    scope-fits : (m : Message) (z : Scope) → Fits room (judgeScope c m z)
-    scope-fits m (whole w) = settled (Fits room) (breach c) accept (judgeWhole c m w) (stops-all breach-fits (judgeWhole c m w)) (whole-fits m w)
-    scope-fits m (of-session i x) =
-        let p = receipt (roleOf (c .stage)) (ownStart c) (farStart c) (at c i) x in
-        settled (Fits room) (breach c) (λ t. accept (setting-session c i (c .last) (message m (t .late)) t)) p (stops-all breach-fits p)
-        (takes-map (λ t k. omega (arith, sent-length i [] (t .sent) k)) p
-        (sends-one (repliesAt (roleOf (c .stage)) (endsOf (at c i .sides)) x) (reply-one (roleOf (c .stage)) (endsOf (at c i .sides)) x) p (receipt-sends (at c i) (roleOf (c .stage)) (ownStart c) (farStart c) x)))
-
-    read-fits : (h : Result Message) → Fits room (messageTaken c h)
-    unfolding judge
-    read-fits (ok m) = scope-fits m (scope m)
-    read-fits (refused n) = omega arith
-    read-fits (violation n) = breach-fits n
-
-    reading-fits : (input : List ℕ) (st : Stage) → Fits room (reading c input st)
-    reading-fits input (stage.Fresh r) = header-fits r (readConnectionHeader input)
-    reading-fits input stage.Started = header-fits role.Client (readConnectionHeader input)
-    reading-fits input (stage.Up r far) = read-fits (readMessage (otherEnd r) input)
-
-  receive-fits : (input : List ℕ) → Fits room (receiveRule c input room)
-  unfolding receiveRule
-  receive-fits input =
-      settled (Fits room) refuse (λ go. reading c input (c .stage)) (receiveGate c room) (stops-all refused-fits (receiveGate c room))
-      (λ _ _ _ h. reading-fits (ltb-false room 12 h) input (c .stage))
-
   -- ---- a turn: a header, and at most a slot
 
   module _ (queue : List ℕ) where
@@ -209,6 +159,58 @@ module _ (c : Connection) (room : ℕ) where
         (λ _ _ _ h _. takes-then (λ e. TurnFits (accept e)) (setting-session c (nextReady c) (nextReady c) (served (nextReady c))) (turnAsk (ownStart c) (farStart c) (at c (nextReady c)))
         (takes-map (λ t k. omega (arith, sent-length (nextReady c) (slot (nextReady c) queue) (t .sent) k, slot-length (nextReady c), ltb-false room turnRoom h))
         (turnAsk (ownStart c) (farStart c) (at c (nextReady c))) (turn-one (ownStart c) (farStart c) (at c (nextReady c)))))
+
+-- ---- a receive, in a room of twelve
+
+module _ (s : State) (input room : List ℕ) where
+  abbrev ReceiveFits : Decision → Type 0
+  ReceiveFits = Fits (length room)
+
+  module _ (wide : 12 ≤ length room) where
+    breach-fits : (n : ℕ) → ReceiveFits (breach (s .connection) n)
+    breach-fits n = omega (arith, broken-fits s (receive input room) _ (breach-told s input room n))
+
+    header-fits : (r : Role) (h : Result ℕ) → ReceiveFits (headerTaken (s .connection) r h)
+    unfolding bytesOfAll
+    header-fits role.Client (ok far) = omega arith
+    header-fits role.Server (ok far) = omega arith
+    header-fits r (refused n) = omega arith
+    header-fits r (violation n) = breach-fits n
+
+    whole-fits : (m : Message) (w : ConnectionMessage) → Takes (λ e. ReceiveFits (accept e)) (judgeWhole (s .connection) m w)
+    whole-fits m no-operation-of = nothing-fits (s .connection) (length room)
+    whole-fits m shutdown-of = nothing-fits (s .connection) (length room)
+    whole-fits m error-of = nothing-fits (s .connection) (length room)
+    whole-fits m (ping-of k) = message-fits (s .connection) (length room) (msg.PingAck k) (omega arith)
+    whole-fits m (ping-ack-of k) = λ _. nothing-fits (s .connection) (length room)
+
+    scope-fits : (m : Message) (z : Scope) → ReceiveFits (judgeScope (s .connection) m z)
+    scope-fits m (whole w) =
+        settled ReceiveFits (breach (s .connection)) accept (judgeWhole (s .connection) m w) (stops-all breach-fits (judgeWhole (s .connection) m w)) (whole-fits m w)
+    scope-fits m (of-session i x) =
+        let c = s .connection in
+        let p = receipt (roleOf (c .stage)) (ownStart c) (farStart c) (at c i) x in
+        settled ReceiveFits (breach c) (λ t. accept (setting-session c i (c .last) (message m (t .late)) t)) p (stops-all breach-fits p)
+        (takes-map (λ t k. omega (arith, sent-length i [] (t .sent) k)) p
+        (sends-one (repliesAt (roleOf (c .stage)) (endsOf (at c i .sides)) x) (reply-one (roleOf (c .stage)) (endsOf (at c i .sides)) x) p (receipt-sends (at c i) (roleOf (c .stage)) (ownStart c) (farStart c) x)))
+
+    read-fits : (h : Result Message) → ReceiveFits (messageTaken (s .connection) h)
+    unfolding judge
+    read-fits (ok m) = scope-fits m (scope m)
+    read-fits (refused n) = omega arith
+    read-fits (violation n) = breach-fits n
+
+    reading-fits : (st : Stage) → ReceiveFits (reading (s .connection) input st)
+    reading-fits (stage.Fresh r) = header-fits r (readConnectionHeader input)
+    reading-fits stage.Started = header-fits role.Client (readConnectionHeader input)
+    reading-fits (stage.Up r far) = read-fits (readMessage (otherEnd r) input)
+
+  receive-fits : ReceiveFits (receiveRule (s .connection) input (length room))
+  unfolding receiveRule
+  receive-fits =
+      let gate = receiveGate (s .connection) (length room) in
+      settled ReceiveFits refuse (λ go. reading (s .connection) input (s .connection .stage)) gate (stops-all (refused-fits (s .connection) (length room)) gate)
+      (λ _ _ _ h. reading-fits (ltb-false (length room) 12 h) (s .connection .stage))
 
 -- ---- every state and call
 
@@ -228,7 +230,7 @@ module _ (s : State) where
   written-fits (log.ping cookie room) = ping-fits (s .connection) (length room) cookie
   written-fits (shutdown room) = shutdown-fits (s .connection) (length room)
   written-fits lost = silent-fits (lost-silent (s .connection))
-  written-fits (receive input room) = receive-fits (s .connection) (length room) input
+  written-fits (receive input room) = receive-fits s input room
 
   overlaid-length : (bytes room : List ℕ) → length bytes ≤ length room → length (overlaid bytes room) ≡ length room
   overlaid-length bytes room h = simp (length-append, length-drop) (omega arith)

@@ -4,8 +4,7 @@ use mathlib.Core.Bool.{Bool, true, false}
 use mathlib.Core.List.{List, [], _∷_, map}
 use Prim.Native.Nat.{ℕ, suc, _≤_, _<_}
 use native.Mathlib.Omega.{arith}
-use lib.ListN.{length, getD, set, length-set, length-map, length-replicate, getD-replicate, List·getD-map}
-use lib.Seq.{getD-set-same, getD-set-other}
+use lib.ListN.{length, getD, length-set, length-map, length-replicate, getD-replicate, List·getD-map}
 use lib.Dec.{eqb}
 use borrow.Author.Tests.{eqb-true, eqb-false, lt-ltb}
 use Rattle.laws.specs.Runs.{run, logOf, fold}
@@ -25,7 +24,7 @@ use Rattle.history.specs.Log.{Call, start, open-session, put, finish, tu
 use Rattle.history.specs.Log as log
 use Rattle.history.proofs.Decisions.{decide, queueAfter, nextBy, outBy, next-is, out-is}
 use Rattle.history.specs.Account.{Account, blankAccount, accountAfter, observed, events}
-use Rattle.history.proofs.Good.{Ok, Good, setupOf, holds, accountOf, ownOf, farBy}
+use Rattle.history.proofs.Good.{Ok, base, Good, own-at, other-at, setupOf, holds, accountOf, ownOf, farBy}
 use Rattle.history.proofs.Steps.{open-good, finish-good, grant-good, abort-good, close-good}
 use Rattle.history.proofs.Moves.{put-good, turn-good}
 use Rattle.history.proofs.Lines.{start-good, ping-good, shutdown-good, lost-good, stage-formed, stage-look}
@@ -111,10 +110,6 @@ ended-at cause c n =
 pub account-path : {a b : Account} → a .line ≡ b .line → a .seen ≡ b .seen → a ≡ b
 account-path p q i = record { line = p i; seen = q i }
 
--- the connection after an effect, before it may end
-abbrev pub base : Connection → Effect → Connection
-base c e = record { sessions = set (c .sessions) (e .number) (e .session); stage = e .stage; over = c .over; own = c .own; last = e .last; ping = e .ping }
-
 ended-ok : {setup : Setup} (s : State) → Ok setup s → (cause : Cause) → Ok setup (record { connection = ended cause (s .connection); queue = s .queue })
 ended-ok {setup} s o cause =
     record {
@@ -146,12 +141,6 @@ module _ (s : State) (o : Ok (setupOf (s .connection)) s) (k : Call) (e : Effect
   pub taken : State
   taken = record { connection = base (s .connection) e; queue = q′ }
 
-  pub own-at : at (base (s .connection) e) (e .number) ≡ e .session
-  own-at = getD-set-same (s .connection .sessions) (e .number) (e .session) blank (let h = g .inside in let z = o .size in omega arith)
-
-  pub other-at : (n : ℕ) → (e .number ≡ n → ⊥) → at (base (s .connection) e) n ≡ at (s .connection) n
-  other-at n d = getD-set-other (s .connection .sessions) (e .number) n (e .session) blank (λ z. d (sym z))
-
   -- by cases: the number that the call concerns, or another
   pub by-number : (P : ℕ → Type 0) → P (e .number) → ((n : ℕ) → n < 128 → (e .number ≡ n → ⊥) → P n) → (n : ℕ) → n < 128 → P n
   by-number P own other n h = go (eqb (e .number) n) refl
@@ -172,12 +161,12 @@ module _ (s : State) (o : Ok (setupOf (s .connection)) s) (k : Call) (e : Effect
         far = g .far;
         formed =
             by-number (λ n. Formed (roleOf (s .connection .stage)) (exchanged (e .stage)) (at (base (s .connection) e) n))
-            (subst (λ (x : Session). Formed (roleOf (s .connection .stage)) (exchanged (e .stage)) x) (sym own-at) (g .formed))
-            (λ n h d. subst (λ (x : Session). Formed (roleOf (s .connection .stage)) (exchanged (e .stage)) x) (sym (other-at n d)) (stage-formed s o (e .stage) (g .stages) n h));
+            (subst (λ (x : Session). Formed (roleOf (s .connection .stage)) (exchanged (e .stage)) x) (sym (own-at s o k e g)) (g .formed))
+            (λ n h d. subst (λ (x : Session). Formed (roleOf (s .connection .stage)) (exchanged (e .stage)) x) (sym (other-at s o k e g n d)) (stage-formed s o (e .stage) (g .stages) n h));
         fits =
             by-number (λ n. at (base (s .connection) e) n .waiting ≤ length (slot n (queueAfter (s .connection) (s .queue) k (accept e))))
-            (subst (λ (x : Session). x .waiting ≤ length (slot (e .number) (queueAfter (s .connection) (s .queue) k (accept e)))) (sym own-at) (g .fits))
-            (λ n h d. rw (other-at n d, g .frame n h d) (o .fits n h));
+            (subst (λ (x : Session). x .waiting ≤ length (slot (e .number) (queueAfter (s .connection) (s .queue) k (accept e)))) (sym (own-at s o k e g)) (g .fits))
+            (λ n h d. rw (other-at s o k e g n d, g .frame n h d) (o .fits n h));
       }
 
   pub taken-holds : (n : ℕ) → n < 128
@@ -186,8 +175,8 @@ module _ (s : State) (o : Ok (setupOf (s .connection)) s) (k : Call) (e : Effect
   taken-holds =
       by-number
       (λ n. holds taken n ≡ fold (observe (ownOf (setupOf (s .connection))) (farStart (s .connection))) (holds s n) (events (roleOf (s .connection .stage)) n (outBy s k (accept e))))
-      (ap (λ (x : Session). look (farBy (e .stage)) x (slot (e .number) (queueAfter (s .connection) (s .queue) k (accept e)))) own-at ∙ g .seen)
-      (λ n h d. ap (λ (x : Session). look (farBy (e .stage)) x (slot n (queueAfter (s .connection) (s .queue) k (accept e)))) (other-at n d)
+      (ap (λ (x : Session). look (farBy (e .stage)) x (slot (e .number) (queueAfter (s .connection) (s .queue) k (accept e)))) (own-at s o k e g) ∙ g .seen)
+      (λ n h d. ap (λ (x : Session). look (farBy (e .stage)) x (slot n (queueAfter (s .connection) (s .queue) k (accept e)))) (other-at s o k e g n d)
       ∙ ap (look (farBy (e .stage)) (at (s .connection) n)) (g .frame n h d) ∙ stage-look s o (e .stage) (g .stages) n h (slot n (s .queue))
       ∙ ap (fold (observe (ownOf (setupOf (s .connection))) (farStart (s .connection))) (holds s n)) (sym (g .others n d)))
 

@@ -1,34 +1,21 @@
 -- reads-back and sends-allowed: what a call writes is read back as what it means, and may be sent then. From each call's step.
-use mathlib.Core.Path.{_≡_, refl, sym, ap, subst}
-use mathlib.Core.Bool.{true, false, not, true≢false, false≢true}
-use mathlib.Core.List.{List, [], _∷_, _++_}
+use mathlib.Core.Path.{refl, sym, subst}
+use mathlib.Core.List.{List}
 use Prim.Native.Nat.{ℕ, _<_}
 use native.Mathlib.Omega.{arith}
-use Rattle.laws.specs.Pick.{pick}
 use Rattle.laws.specs.Runs.{Every}
-use Rattle.laws.proofs.Tests.{and-both}
-use Rattle.wire.specs.declared.Role.{Role}
-use Rattle.wire.specs.declared.Role.the-variants as role
-use Rattle.wire.specs.Message.{isServer}
-use Rattle.protocol.specs.Call.{unstarted}
-use Rattle.wire.specs.declared.Message.the-variants as msg
-use Rattle.state.specs.declared.Stage.{Stage}
-use Rattle.state.specs.declared.Stage.the-variants as stage
 use Rattle.state.specs.declared.Setup.{Setup}
 use Rattle.protocol.specs.Connection.{roleOf}
-use Rattle.protocol.specs.Judge.{Output, header-out, sent, Breach, Decision, refuse, violate, accept, errorAfter}
-use Rattle.protocol.specs.Result.{bytesOfAll}
-use Rattle.protocol.proofs.Views.{greetingOf}
+use Rattle.protocol.specs.Judge.{Output, Decision, refuse, violate, accept}
 use Rattle.history.specs.Log.{Call, State, Entry, out, Proper}
 use Rattle.history.specs.Log as log
-use Rattle.history.proofs.Decisions.{decide, payloadOf, outBy, out-is}
-use Rattle.history.specs.Written.{allWritten}
+use Rattle.history.proofs.Decisions.{decide, outBy, out-is}
 use Rattle.history.specs.Account.{Account, concerned}
-use Rattle.history.specs.Meant.{ungreeted, meantBy, ReadInOrder, mayGo}
+use Rattle.history.specs.Meant.{meantBy, ReadInOrder, mayGo}
 use Rattle.history.specs.Claims.{accountBefore, ReadsBack, SendsAllowed}
-use Rattle.history.proofs.InOrder.{CookieFits, reads-fitting, written-is}
+use Rattle.history.proofs.InOrder.{CookieFits, reads-fitting}
 use Rattle.history.proofs.Good.{Ok, setupOf, accountOf}
-use Rattle.history.proofs.Written.{sent-read-back, opening-read-back}
+use Rattle.history.proofs.Violations.{broken-reads, found-goes}
 use Rattle.history.proofs.Receives.{GoodBy}
 use Rattle.history.proofs.Simulation.{decide-good, same-setup, own-ok, observed-is, run-made}
 use Rattle.history.proofs.Entries.{of-entries}
@@ -37,44 +24,6 @@ use Rattle.history.proofs.Entries.{of-entries}
 pub record Speaks (s : Setup) (a : Account) (e : Entry) : Type 0 where
   pub reads : CookieFits (e .call) → ReadInOrder (s .role) (e .wrote) (meantBy s a (e .call) (e .answer))
   pub allowed : Every (mayGo s a e) (meantBy s a (e .call) (e .answer))
-
--- ---- the answer to a violation
-
-error-means : (st : Stage) (own : ℕ) → errorAfter st own ≡ pick (ungreeted (greetingOf st)) (header-out own ∷ []) [] ++ (sent (msg.Error 0) ∷ [])
-unfolding pick
-error-means (stage.Fresh r) own = refl
-error-means stage.Started own = refl
-error-means (stage.Up r far) own = refl
-
-error-read : (r : Role) (payload : List ℕ) → ReadInOrder r (bytesOfAll payload (sent (msg.Error 0) ∷ [])) (sent (msg.Error 0) ∷ [])
-error-read r payload =
-    sent-read-back r (msg.Error 0) payload
-    (record { shift = omega arith; session = omega arith; number = omega arith; sender = refl; flags = refl; body = omega arith })
-
-error-reads : (r : Role) (payload : List ℕ) (st : Stage) (own : ℕ) → own < 65_536 → ReadInOrder r (bytesOfAll payload (errorAfter st own)) (errorAfter st own)
-error-reads r payload (stage.Fresh q) own h = opening-read-back r own payload (sent (msg.Error 0) ∷ []) h (error-read r payload)
-error-reads r payload stage.Started own h = error-read r payload
-error-reads r payload (stage.Up q far) own h = error-read r payload
-
--- header and Error are read as two, Error alone as one
-pub error-written : (r : Role) (payload : List ℕ) (st : Stage) (own : ℕ) → own < 65_536 → allWritten r (bytesOfAll payload (errorAfter st own)) ≡ errorAfter st own
-error-written r payload st own h = written-is r (bytesOfAll payload (errorAfter st own)) (errorAfter st own) (error-reads r payload st own h)
-
--- a client that is not started finds no violation
-begun-server : (st : Stage) → ungreeted (greetingOf st) ≡ true → unstarted st ≡ false → isServer (roleOf st) ≡ true
-begun-server (stage.Fresh role.Client) u e = absurd (true≢false e)
-begun-server (stage.Fresh role.Server) u e = refl
-begun-server stage.Started u e = absurd (false≢true u)
-begun-server (stage.Up r far) u e = absurd (false≢true u)
-
-error-goes : (s : State) (k : Call) (b : Breach) (st : Stage) → s .connection .stage ≡ st → s .connection .over ≡ false → unstarted (s .connection .stage) ≡ false
-    → Every (mayGo (setupOf (s .connection)) (accountOf s 0) (outBy s k (violate b))) (errorAfter st (s .connection .own))
-unfolding Every
-error-goes s k b (stage.Fresh r) q live begun =
-    let fresh : ungreeted (greetingOf (s .connection .stage)) ≡ true = ap (λ (z : Stage). ungreeted (greetingOf z)) q in
-    (and-both (and-both (ap not live) fresh) (begun-server (s .connection .stage) fresh begun), (and-both (ap not live) refl, tt))
-error-goes s k b stage.Started q live begun = (and-both (ap not live) refl, tt)
-error-goes s k b (stage.Up r far) q live begun = (and-both (ap not live) refl, tt)
 
 -- ---- every decision
 
@@ -87,19 +36,7 @@ module _ (s : State) (o : Ok (setupOf (s .connection)) s) (k : Call) where
   speaks-by : (d : Decision) → GoodBy s k d → Speaks (setupOf (s .connection)) (accountOf s (concerned k (outBy s k d .answer))) (outBy s k d)
   unfolding ReadInOrder Every
   speaks-by (refuse n) g = record { reads = λ _. refl; allowed = tt }
-  speaks-by (violate b) g =
-      let st = s .connection .stage in
-      let own = s .connection .own in
-      let p = payloadOf (s .queue) k (violate b) in
-      record {
-        reads =
-            λ _. subst (λ (os : List Output). ReadInOrder (roleOf (s .connection .stage)) (bytesOfAll p (b .reply)) os) (error-means st own)
-            (subst (λ (os : List Output). ReadInOrder (roleOf (s .connection .stage)) (bytesOfAll p os) (errorAfter st own)) (sym (g .0))
-            (error-reads (roleOf (s .connection .stage)) p st own (o .proper)));
-        allowed =
-            subst (λ (os : List Output). Every (mayGo (setupOf (s .connection)) (accountOf s 0) (outBy s k (violate b))) os) (error-means st own)
-            (error-goes s k b st refl (g .2) (g .3));
-      }
+  speaks-by (violate b) g = record { reads = λ _. broken-reads s k b (g .told) (o .proper); allowed = found-goes s k b g }
   speaks-by (accept e) g =
       subst (λ (n : ℕ). Speaks (setupOf (s .connection)) (accountOf s n) (outBy s k (accept e))) (sym (g .concerns))
       (record {
