@@ -1,6 +1,6 @@
 -- What the other end reads in order is all that stands in the bytes: no bytes are both a message and a connection header.
 use mathlib.Core.Path.{_≡_, refl, sym, ap, _∙_, subst}
-use mathlib.Core.Bool.{Bool, true, false, _&&_}
+use mathlib.Core.Bool.{Bool, true, false}
 use mathlib.Core.List.{List, [], _∷_, _++_}
 use Prim.Native.Nat.{ℕ, zero, suc, _+_, _/_, _%_, _≤_, _<_}
 use native.Mathlib.Omega.{arith}
@@ -23,7 +23,6 @@ use Rattle.wire.specs.Layout.{fixed}
 use Rattle.wire.specs.Message.{bodyLength, typed, parseHeader, withBody, readMessage}
 use Rattle.wire.specs.Connection.{connectionLayout, parseConnectionHeader, readConnectionHeader}
 use Rattle.protocol.specs.Judge.{Output, header-out, sent}
-use Rattle.protocol.specs.Observed.{Event}
 use Rattle.history.specs.Log.{Call, ping}
 use Rattle.history.specs.Written.{messageIn, headerIn, withRest, writtenUpTo, allWritten}
 use Rattle.history.specs.Account.{outputSeen}
@@ -152,9 +151,9 @@ module _ (r : Role) (k : Call) (bytes : List ℕ) (outs : List Output) where
   pub reads-alone : (before after : List Output) (o : Output) → Reads r k bytes outs → length outs ≤ 1 → allWritten r bytes ≡ before ++ (o ∷ after) → allWritten r bytes ≡ o ∷ []
   reads-alone before after o q h e =
       let l : length (before ++ (o ∷ after)) ≤ 1 = subst (λ (os : List Output). length os ≤ 1) e (reads-single q h) in
-      e ∙ go before after (omega (arith, simp length-append at l))
+      e ∙ lone before after (omega (arith, simp length-append at l))
     where
-      go : (b a : List Output) → length b + suc (length a) ≤ 1 → b ++ (o ∷ a) ≡ o ∷ []
-      go [] [] z = refl
-      go [] (x ∷ a) z = absurd (omega arith)
-      go (x ∷ b) a z = absurd (omega arith)
+      lone : (b a : List Output) → length b + suc (length a) ≤ 1 → b ++ (o ∷ a) ≡ o ∷ []
+      lone [] [] z = refl
+      lone [] (x ∷ a) z = absurd (omega arith)
+      lone (x ∷ b) a z = absurd (omega arith)

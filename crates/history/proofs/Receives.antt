@@ -32,7 +32,7 @@ use Rattle.protocol.specs.Connection.{otherEnd, shutdown-received, error-receiv
 use Rattle.protocol.specs.Judge.{unchanged, header-received, message, Output, header-out, sent, Ending, goes-on, ends, Decision, refuse, violate, accept, setting-session, continued, breach, judgeWhole, judgeScope, judge}
 use Rattle.protocol.specs.Call.{unstarted, answering, headerTaken, messageTaken, reading, receiveGate, receiveRule}
 use Rattle.protocol.specs.Result.{bytesOfAll}
-use Rattle.protocol.specs.Observed.{Event, received, repliesAt, mayArrive, wrongNumber}
+use Rattle.protocol.specs.Observed.{received, repliesAt, mayArrive, wrongNumber}
 use Rattle.protocol.proofs.Plans as plans
 use Rattle.protocol.proofs.Plans.{Takes, takes-map, takes-both, stops-all, exact-true}
 use Rattle.protocol.proofs.Views.{greetingOf, greeted-is, endsOf, Formed}

@@ -9,6 +9,7 @@ use Rattle.wire.specs.Message.{bodyLength, readMessage}
 use Rattle.wire.specs.Connection.{readConnectionHeader}
 use Rattle.protocol.specs.Judge.{Output, header-out, sent}
 
+-- what each reader finds first, or nothing
 abbrev pub messageIn : Result Message → List Output
 messageIn (ok m) = sent m ∷ []
 messageIn (refused n) = []
@@ -29,7 +30,7 @@ abbrev pub withRest : (List ℕ → List Output) → List ℕ → List Output �
 withRest rest bytes [] = []
 withRest rest bytes (o ∷ os) = o ∷ rest (drop (sizeOf o) bytes)
 
--- at most so many; no bytes are both a message and a connection header
+-- at most so many, up to where neither stands; no bytes are both a message and a connection header
 unfoldable pub writtenUpTo : ℕ → Role → List ℕ → List Output
 writtenUpTo zero r bytes = []
 writtenUpTo (suc k) r bytes = withRest (writtenUpTo k r) bytes (messageIn (readMessage r bytes) ++ headerIn (readConnectionHeader bytes))
