@@ -5,7 +5,6 @@ use mathlib.Core.List.{List, [], _∷_}
 use Prim.Native.Nat.{ℕ}
 use Rattle.ration.specs.declared.Ration.{Ration}
 use Rattle.ration.specs.declared.Ration.the-variants.{Finite, Endless}
-use Rattle.wire.specs.declared.Role.{Role}
 use Rattle.wire.specs.declared.Role.the-variants.{Client, Server}
 use Rattle.state.specs.declared.Side.the-variants as side
 use Rattle.state.specs.declared.Before.the-variants as before

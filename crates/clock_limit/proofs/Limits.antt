@@ -1,6 +1,6 @@
 -- What a limit is in numbers: the fixed one, 1000 before any sample, at least 1 above the smoothed time, and the settings refused with 12.
 use mathlib.Core.Path.{_≡_, refl, ap, _∙_}
-use mathlib.Core.Bool.{Bool, true, false, _&&_, cond}
+use mathlib.Core.Bool.{Bool, true, false, cond}
 use lib.Ieee.{Float, add, mul, div, lt, le, ofInt}
 use Rattle.laws.specs.Pick.{pick}
 use Rattle.laws.specs.Result.{ok, refused}
