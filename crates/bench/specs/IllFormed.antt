@@ -1,4 +1,4 @@
--- States that break one item of well formed each, beside the same state with that item repaired.
+-- States that break one item of well formed each, beside a state that differs in one place and is well formed.
 use mathlib.Core.Path.{_≡_}
 use mathlib.Core.Bool.{true, false}
 use mathlib.Core.List.{List, [], _∷_}
@@ -79,7 +79,7 @@ formTable =
     -- finish asked only there: not on a finished, an ended or an idle number
     ∷ form-row (numberSet serverUp 5 (finishAsked (sides.Live side.Finished side.Open))) (numberSet serverUp 5 (sessionAt (sides.Live side.Finished side.Open)))
     ∷ form-row (numberSet clientUp 5 (finishAsked (sides.Live side.Ended side.Open))) (numberSet clientUp 5 (sessionAt (sides.Live side.Ended side.Open)))
-    ∷ form-row (numberSet clientUp 5 (finishAsked (sides.Live side.Ended side.Open))) (numberSet clientUp 5 (finishAsked openSides))
+    ∷ form-row (numberSet clientUp 7 (finishAsked (sides.Live side.Ended side.Open))) (numberSet clientUp 7 (finishAsked openSides))
     ∷ form-row (numberSet clientUp 0 (finishAsked sides.Idle)) (numberSet clientUp 0 (finishAsked (sides.Opening before.Idle)))
     -- no opening at a server
     ∷ form-row (numberSet serverUp 5 (sessionAt (sides.Opening before.Idle))) (numberSet clientUp 5 (sessionAt (sides.Opening before.Idle)))

@@ -1,5 +1,5 @@
--- The sizes that calls ask for: a room and a queue one byte short are refused with 8, what is exactly enough is not; a slot takes 256
--- bytes and no more. The states are made by calls.
+-- The sizes that calls ask for: a room one byte short and a queue one byte short or long are refused with 8, what is exactly enough is
+-- not; a slot takes 256 bytes and no more. The states are made by calls.
 use mathlib.Core.Path.{_≡_}
 use mathlib.Core.Bool.{true, false}
 use mathlib.Core.List.{List, [], _∷_}
@@ -14,7 +14,7 @@ use Rattle.protocol.specs.Judge.{Report, done, served, header-received}
 use Rattle.protocol.specs.Judge as report
 use Rattle.protocol.specs.Result.{Given, startCall, openCall, putCall, finishCall, turnCall, grantCall, abortCall, closeCall, pingCall, shutdownCall, receiveCall}
 
--- what a call answers with the bytes that it writes, and what these must be
+-- what a call answers, with the bytes that it writes to its room, and what these must be
 pub record SizeRow : Type 0 where
   pub gives : Result Report × List ℕ
   pub must : Result Report × List ℕ
@@ -35,6 +35,7 @@ ofZeros n = replicate n 0
 abbrev pub inRoomOf : Given × List ℕ → Result Report × List ℕ
 inRoomOf (g, room) = (g .answer, take (g .wrote) room)
 
+-- a put is lent no room
 abbrev pub ofQueue : Given × List ℕ → Result Report × List ℕ
 ofQueue (g, queue) = (g .answer, [])
 

@@ -1,9 +1,8 @@
 -- What a put gives: where it is taken its bytes fit the slot, from the checks that it passed.
-use mathlib.Core.Path.{_≡_, refl, sym, ap, _∙_}
+use mathlib.Core.Path.{_≡_, refl, ap, _∙_}
 use mathlib.Core.Bool.{true, false}
 use mathlib.Core.List.{List, []}
 use Prim.Native.Nat.{ℕ, _-_, _<_, _≤_}
-use native.Mathlib.Omega.{arith}
 use lib.ListN.{length}
 use borrow.Author.Tests.{eq-eqb, lt-ltb, le-leb, eqb-true, ltb-false, leb-false}
 use Rattle.laws.proofs.Pick.{yes}
@@ -26,7 +25,7 @@ use Rattle.session.specs.declared.Stepped.the-variants as stepped
 use Rattle.session.specs.Step.{steppedAs}
 use Rattle.state.specs.With.{withSession}
 use Rattle.connection_check.proofs.Sessions.{waiting-fits}
-use Rattle.call_slots.specs.Slots.{servable, putInto}
+use Rattle.call_slots.specs.Slots.{putInto}
 use Rattle.call_checks.specs.Deciding.{Quiet, decision}
 use Rattle.call_checks.proofs.Calls.{giving}
 use Rattle.call_put.specs.Put.{putting}

@@ -9,7 +9,6 @@ use native.Mathlib.Nat.{le-of-suc-le-suc}
 use lib.Dec.{eqb}
 use lib.ListN.{length, getD, set}
 use Rattle.laws.specs.Pick.{pick}
-use Rattle.laws.proofs.Pick.{yes, no}
 use Rattle.state.specs.declared.Session.{Session}
 use Rattle.state.specs.declared.Connection.{Connection}
 use Rattle.state.specs.New.{blank}

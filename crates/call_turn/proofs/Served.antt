@@ -1,7 +1,7 @@
 -- What a turn gives: the message of the number that is served with the first bytes of its slot, and the slot without them.
-use mathlib.Core.Path.{_≡_, refl, sym, ap, _∙_}
-use mathlib.Core.Bool.{Bool, true, false, not}
-use mathlib.Core.List.{List, [], _∷_, _++_, map}
+use mathlib.Core.Path.{_≡_, sym, ap, _∙_}
+use mathlib.Core.Bool.{true, false}
+use mathlib.Core.List.{List, [], _∷_, map}
 use Prim.Native.Nat.{ℕ, _+_, _-_, _*_, _≤_, _<_}
 use native.Mathlib.Omega.{arith}
 use lib.ListN.{length, take, drop, length-append, length-take}
@@ -13,11 +13,11 @@ use Rattle.refusal.specs.declared.Refusal.{Refusal}
 use Rattle.refusal.specs.Number.{refusalNumber}
 use Rattle.wire.specs.declared.Message.{Message}
 use Rattle.wire.specs.declared.Message.the-variants as msg
-use Rattle.wire.specs.Message.{header, bodyLength}
+use Rattle.wire.specs.Message.{bodyLength}
 use Rattle.state.specs.declared.Connection.{Connection}
 use Rattle.protocol.specs.Slot.{slotSize, queueSize, turnRoom}
 use Rattle.protocol.specs.Queue.{slot, withSlot, turnSlot}
-use Rattle.protocol.specs.Plan.{Plan, take as taking}
+use Rattle.protocol.specs.Plan.{take as taking}
 use Rattle.protocol.specs.Message.{numbered}
 use Rattle.protocol.specs.Connection.{at, wellFormed}
 use Rattle.protocol.specs.Judge.{Output, sent, served, refuse, setting-session}
@@ -30,7 +30,7 @@ use Rattle.session.specs.declared.Sent.the-variants as session
 use Rattle.session.specs.declared.Taken.{Taken}
 use Rattle.session.specs.declared.Stepped.{Stepped}
 use Rattle.session.specs.declared.Stepped.the-variants as stepped
-use Rattle.session.specs.Step.{sentAs, takenAs, steppedAs}
+use Rattle.session.specs.Step.{sentAs, steppedAs}
 use Rattle.call_checks.specs.declared.Gate.{Gate}
 use Rattle.call_checks.specs.declared.Gate.the-variants as gate
 use Rattle.call_checks.specs.Gate.{gateAs, toGate}

@@ -2,7 +2,7 @@
 use mathlib.Core.Path.{_≡_, sym, ap, _∙_}
 use mathlib.Core.Bool.{true, false}
 use mathlib.Core.List.{List, []}
-use Prim.Native.Nat.{ℕ, _<_, _≤_}
+use Prim.Native.Nat.{ℕ, _<_}
 use lib.Dec.{ltb}
 use lib.ListN.{length}
 use borrow.Author.Tests.{ltb-true}
@@ -11,7 +11,7 @@ use Rattle.laws.proofs.Tests.{and-first}
 use Rattle.refusal.specs.declared.Refusal.{Refusal}
 use Rattle.refusal.specs.Number.{refusalNumber}
 use Rattle.state.specs.declared.Connection.{Connection}
-use Rattle.protocol.specs.Slot.{slotSize, turnRoom}
+use Rattle.protocol.specs.Slot.{turnRoom}
 use Rattle.protocol.specs.Plan.{Plan, take}
 use Rattle.protocol.specs.Ask.{readySession}
 use Rattle.protocol.specs.Connection.{at, roleOf, exchanged, ownStart, farStart, allFormed, wellFormed}
@@ -22,7 +22,6 @@ use Rattle.protocol.proofs.Turns.{turn-stops}
 use Rattle.call_checks.specs.declared.Gate.{Gate}
 use Rattle.call_checks.specs.declared.Gate.the-variants as gate
 use Rattle.call_checks.specs.Gate.{gateAs, toGate}
-use Rattle.connection_check.proofs.Sessions.{waiting-fits}
 use Rattle.call_checks.proofs.Calls.{passed, stopped}
 use Rattle.call_turn.specs.Turned.{turnGives}
 

@@ -1,4 +1,4 @@
--- What a limit is in numbers: the fixed one, 1000 before any sample, at least 1 above the smoothed time, and the settings refused with 12.
+-- What a limit is in numbers: the fixed one, 1000 before any sample, a margin of at least 1, and the settings refused with 12.
 use mathlib.Core.Path.{_≡_, refl, ap, _∙_}
 use mathlib.Core.Bool.{Bool, true, false, cond}
 use lib.Ieee.{Float, add, mul, div, lt, le, ofInt}
@@ -12,7 +12,7 @@ use Rattle.clock_sample.specs.Clock.{newClock, first, updated, goodClock, sampl
 use Rattle.clock_limit.specs.declared.Setting.the-variants.{Fixed, Measured}
 use Rattle.clock_limit.specs.Limit.{goodSetting, measured, limitUnder, limitRule}
 
--- a fixed limit is that limit, whatever the clock holds
+-- a fixed limit is that limit, whatever a good clock holds
 pub fixed-is-itself : (limit : Float) (clock : Clock) → goodClock clock ≡ true → goodSetting (Fixed limit) ≡ true → limitRule clock (Fixed limit) ≡ ok limit
 unfolding limitRule
 fixed-is-itself limit clock g s = yes _ _ _ (and-both g s)
@@ -41,8 +41,9 @@ margin-above clock e m = yes _ _ _ e ∙ ap (λ (b : Bool). clock .smoothed ⊕ 
 pub new-limits : (limitRule newClock (Measured (wholeNumber 1) (wholeNumber 60_000)) ≡ ok (wholeNumber 1000))
     × (limitRule newClock (Measured (wholeNumber 1001) (wholeNumber 60_000)) ≡ ok (wholeNumber 1001))
     × (limitRule newClock (Measured (wholeNumber 1) (wholeNumber 999)) ≡ ok (wholeNumber 999))
+    × (limitRule newClock (Measured (wholeNumber 7) (wholeNumber 7)) ≡ ok (wholeNumber 7))
 unfolding pick newClock goodClock goodSetting measured limitRule wholeNumber ofInt lt le
-new-limits = (refl, refl, refl)
+new-limits = (refl, refl, refl, refl)
 
 -- a first sample of 0 has the deviation 0: the limit is 1
 pub limit-after-0 : limitRule (sampleRule newClock 0 .1) (Measured (wholeNumber 1) (wholeNumber 60_000)) ≡ ok (wholeNumber 1)

@@ -2,14 +2,14 @@
 use mathlib.Core.Path.{_≡_, refl, sym}
 use mathlib.Core.Bool.{Bool, true, false, _&&_, and-false}
 use Prim.Native.Nat.{ℕ, _≤_, _<_}
-use lib.Ieee.{div, lt, le, ofInt}
+use lib.Ieee.{Float, sub, div, lt, le, ofInt}
 use borrow.Author.Tests.{le-leb, lt-leb}
 use Rattle.laws.specs.Pick.{pick}
 use Rattle.laws.specs.Result.{Result, ok, refused}
 use Rattle.laws.proofs.Pick.{yes, no}
 use Rattle.laws.proofs.Results.{refused-same, refused-not-ok}
 use Rattle.laws.proofs.Tests.{and-both}
-use Rattle.clock_numbers.specs.Arithmetic.{wholeNumber}
+use Rattle.clock_numbers.specs.Arithmetic.{_⊖_, _⊘_, wholeNumber}
 use Rattle.clock_sample.specs.declared.Clock.{Clock}
 use Rattle.clock_sample.specs.Clock.{newClock, first, updated, goodClock, goodSample, sampleRule}
 
@@ -59,3 +59,17 @@ pub good-up-to-60000 : (clock : Clock)
     && (le (wholeNumber 0) (clock .deviation) && le (clock .deviation) (wholeNumber 60_000)))
 unfolding goodClock
 good-up-to-60000 clock = refl
+
+abbrev clockOf : Float → Float → Clock
+clockOf smoothed deviation = record { sampled = true; smoothed = smoothed; deviation = deviation }
+
+-- and so not above, not below and not NaN
+pub bad-states : (goodClock (clockOf (wholeNumber 60_000) (wholeNumber 60_000)) ≡ true)
+    × (goodClock (clockOf (wholeNumber 60_001) (wholeNumber 0)) ≡ false)
+    × (goodClock (clockOf (wholeNumber 0) (wholeNumber 60_001)) ≡ false)
+    × (goodClock (clockOf (wholeNumber 0 ⊖ wholeNumber 1) (wholeNumber 0)) ≡ false)
+    × (goodClock (clockOf (wholeNumber 0) (wholeNumber 0 ⊖ wholeNumber 1)) ≡ false)
+    × (goodClock (clockOf (wholeNumber 0 ⊘ wholeNumber 0) (wholeNumber 0)) ≡ false)
+    × (goodClock (clockOf (wholeNumber 0) (wholeNumber 0 ⊘ wholeNumber 0)) ≡ false)
+unfolding goodClock wholeNumber ofInt sub div lt le
+bad-states = (refl, refl, refl, refl, refl, refl, refl)

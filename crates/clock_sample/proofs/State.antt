@@ -1,7 +1,7 @@
 -- A good clock stays good: a sample takes a state from 0 to 60,000 to one from 0 to 60,000, from the bounds that the operations keep.
 use mathlib.Core.Path.{_≡_, refl}
 use mathlib.Core.Bool.{Bool, true, false}
-use Prim.Native.Nat.{ℕ, _*_}
+use Prim.Native.Nat.{ℕ}
 use native.Mathlib.Omega.{arith}
 use lib.IntN.{negsuc}
 use lib.Dec.{T}

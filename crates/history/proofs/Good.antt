@@ -21,8 +21,8 @@ use Rattle.protocol.specs.Queue.{slot}
 use Rattle.protocol.specs.Receipt.{Taken}
 use Rattle.protocol.specs.Connection.{Cause, at, roleOf, exchanged, farNumber, farStart}
 use Rattle.protocol.specs.Judge.{Report, Ending, goes-on, ends, Effect, accept, setting-session, commit}
-use Rattle.protocol.specs.Observed.{Event, observe, Seen, isReady, anyLapse}
-use Rattle.protocol.proofs.Views.{greetingOf, pingingOf, look, Formed}
+use Rattle.protocol.specs.Observed.{Event, observe, isReady, anyLapse}
+use Rattle.protocol.proofs.Views.{look, Formed}
 use Rattle.protocol.proofs.Sound.{Sound}
 use Rattle.protocol.specs.Asked.{isUnsent}
 use Rattle.protocol.specs.Fate.{fateOf, fateAfter, Ended, not-ended}
@@ -32,7 +32,7 @@ use Rattle.history.specs.Log.{Call, start, open-session, put, finish, tu
 use Rattle.history.specs.Log as log
 use Rattle.history.proofs.Decisions.{queueAfter, payloadOf, outBy}
 use Rattle.history.proofs.InOrder.{Reads}
-use Rattle.history.specs.Account.{Line, lineAfter, events, reported, reportedOf, Account}
+use Rattle.history.specs.Account.{lineAfter, events, reported, reportedOf}
 use Rattle.history.specs.Fates.{endTold}
 use Rattle.history.specs.Meant.{meantFor, meantOfAll, meantBy, mayGo}
 use Rattle.history.specs.Claims.{dataWritten, has}

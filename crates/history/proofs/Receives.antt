@@ -42,10 +42,9 @@ use Rattle.protocol.proofs.Sends.{Sends, receipt-sends}
 use Rattle.protocol.proofs.Exact.{receipt-exact}
 use Rattle.protocol.proofs.Fates.{receipt-fate}
 use Rattle.protocol.specs.Asked.{isUnsent}
-use Rattle.protocol.specs.Fate.{not-ended}
 use Rattle.history.specs.Log.{Call, receive, State}
 use Rattle.history.proofs.Decisions.{outBy}
-use Rattle.history.specs.Account.{Line, lineByMessage, inScope, sessionIn}
+use Rattle.history.specs.Account.{lineByMessage, inScope, sessionIn}
 use Rattle.history.specs.Fates.{endedByMessage}
 use Rattle.history.specs.Meant.{ungreeted, answeredIn, answerOfAll, isPing, ReadInOrder, mayGo}
 use Rattle.history.proofs.Good.{Ok, Good, endedAs, ForSession, setupOf, lineOf, holds, accountOf}

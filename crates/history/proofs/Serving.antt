@@ -5,12 +5,12 @@ use mathlib.Core.Bool.{false, not}
 use mathlib.Core.List.{List, []}
 use Prim.Native.Nat.{ℕ, _+_, _-_, _≤_, _<_}
 use native.Mathlib.Omega.{arith}
-use lib.ListN.{length, set, getD}
+use lib.ListN.{length, getD}
 use lib.Seq.{getD-set-same}
 use borrow.Author.Tests.{leb-false, ltb-false, eqb-true}
 use lib.Dec.{eqb}
 use Rattle.laws.specs.Result.{ok}
-use Rattle.laws.proofs.Results.{ok-same, refused-not-ok, violation-not-ok}
+use Rattle.laws.proofs.Results.{ok-same, refused-not-ok}
 use Rattle.laws.proofs.Tests.{not-false}
 use Rattle.laws.proofs.Circle.{nearest-lt}
 use Rattle.state.specs.declared.Session.{Session}
@@ -26,11 +26,11 @@ use Rattle.protocol.specs.Judge.{Report, done, served, Effect, Decision, refuse
 use Rattle.protocol.specs.Call.{putRule, turnRule, nextReady}
 use Rattle.protocol.proofs.Plans.{Takes, takes-then, takes-map, takes-all, stops-all, settled}
 use Rattle.protocol.proofs.Slots.{put-length, turn-length, put-zeros, turn-zeros, slot-same}
-use Rattle.history.specs.Log.{Call, start, open-session, put, finish, turn, grant, abort, close, shutdown, lost, receive, State, Entry, next, out, Proper}
+use Rattle.history.specs.Log.{Call, start, open-session, put, finish, turn, grant, abort, close, shutdown, lost, receive, State, Entry, next, Proper}
 use Rattle.history.specs.Log as log
 use Rattle.history.specs.Account.{concerned}
 use Rattle.history.specs.Claims.{RestZero, SlotsServed, StateTold}
-use Rattle.history.proofs.Decisions.{decide, queueAfter, nextBy, outBy, next-is, out-is}
+use Rattle.history.proofs.Decisions.{decide, nextBy, outBy, next-is, out-is}
 use Rattle.history.proofs.Good.{Ok, setupOf}
 use Rattle.history.proofs.Steps.{formed-up}
 use Rattle.history.proofs.Receives.{GoodBy}

@@ -8,7 +8,6 @@ use lib.Dec.{eqb}
 use Rattle.laws.specs.Pick.{pick}
 use Rattle.laws.specs.Result.{Result, ok, refused, violation}
 use Rattle.wire.specs.declared.Role.{Role}
-use Rattle.wire.specs.declared.Message.{Message}
 use Rattle.wire.specs.declared.Message.the-variants as msg
 use Rattle.wire.specs.Message.{isClient, isServer, bodyLength, readMessage}
 use Rattle.wire.specs.Connection.{readConnectionHeader}

@@ -1,6 +1,6 @@
 -- The circle of the 128 session numbers, and the nearest one after a number that passes a test.
 use Prim.Native.Nat.{ℕ, zero, suc, _+_, _-_, _%_}
-use mathlib.Core.Bool.{Bool, true, false}
+use mathlib.Core.Bool.{Bool}
 use Rattle.laws.specs.Pick.{pick}
 
 -- the number after i, going round from 127 to 0

@@ -1,12 +1,9 @@
 -- By which events a wait lapses, and by which not, each constructor named: from the definition, by cases.
 use mathlib.Core.Path.{_≡_, refl, sym}
-use mathlib.Core.Bool.{Bool, true, false, _||_, true≢false}
-use mathlib.Core.List.{List, [], _∷_}
-use Prim.Native.Nat.{suc}
-use native.Mathlib.Omega.{arith}
+use mathlib.Core.Bool.{true, false, true≢false}
 use Rattle.protocol.specs.Message.{data-of, increment-of, abort-of, close-of, acknowledgment-of}
-use Rattle.protocol.specs.Observed.{Event, opens, finishes, aborts, puts, received, wrote, lapses, anyLapse}
-use Rattle.protocol.specs.Lapsing.{Lapsing, Lasting, SomeLapsing, abort-taken, abort-comes, close-comes, close-flag-comes}
+use Rattle.protocol.specs.Observed.{Event, opens, finishes, aborts, puts, received, wrote, lapses}
+use Rattle.protocol.specs.Lapsing.{Lapsing, Lasting, abort-taken, abort-comes, close-comes, close-flag-comes}
 
 -- a wait lapses in these four ways
 pub lapses-by : {e : Event} → Lapsing e → lapses e ≡ true
@@ -45,15 +42,3 @@ lasts-over =
       by-close-written = refl;
       by-acknowledgment-written = refl;
     }
-
--- ---- of several events
-
-pub any-lapse-only : (es : List Event) → anyLapse es ≡ true → SomeLapsing es
-any-lapse-only [] h = absurd (true≢false (sym h))
-any-lapse-only (e ∷ es) h = go (any-lapse-only es) (lapses e) refl h
-  where
-    go : (anyLapse es ≡ true → SomeLapsing es) → (b : Bool) → lapses e ≡ b → (b || anyLapse es) ≡ true → SomeLapsing (e ∷ es)
-    go rest true q h = record { place = 0; inside = omega arith; lapsing = lapses-only e q }
-    go rest false q h =
-        let later = rest h in
-        record { place = suc (later .place); inside = (let k = later .inside in omega arith); lapsing = later .lapsing }

@@ -13,8 +13,8 @@ sizes = (refl, refl, refl)
 pub slot-stands : (n : ℕ) (queue : List ℕ) → slot n queue ≡ take 256 (drop (n * 256) queue)
 slot-stands n queue = refl
 
-pub other-slots-stay : (n : ℕ) (s queue : List ℕ) → withSlot n s queue ≡ take (n * 256) queue ++ s ++ drop (n * 256 + 256) queue
-other-slots-stay n s queue = refl
+pub with-slot-stands : (n : ℕ) (s queue : List ℕ) → withSlot n s queue ≡ take (n * 256) queue ++ s ++ drop (n * 256 + 256) queue
+with-slot-stands n s queue = refl
 
 -- a put sets its bytes behind those that wait, a turn takes the first n that wait away; zeros up to 256
 pub put-stands : (waiting : ℕ) (bytes s : List ℕ)

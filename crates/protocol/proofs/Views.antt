@@ -29,7 +29,7 @@ use Rattle.protocol.specs.Session.{afterData}
 use Rattle.protocol.specs.Ask.{sends, positive, sendable, due, readySession, readyIn}
 use Rattle.protocol.specs.Connection.{exchanged, farNumber, placed, sessionFormed}
 use Rattle.protocol.specs.Judge.{matches}
-use Rattle.protocol.specs.Observed.{Greeting, no-header, own-header, both-headers, greeted, startTold, Pinging, no-ping, pinged, awaits, Sending, silent, sending, isEmpty, anyLeft, isReady, Ends, unused, ends, Seen, dataLeaves, dueLength}
+use Rattle.protocol.specs.Observed.{greeted, startTold, awaits, isEmpty, anyLeft, isReady, Seen, dataLeaves, dueLength}
 pub use Rattle.protocol.specs.Held.{endsOf, sendsOf, look, greetingOf, pingingOf}
 
 pub look-path : {far far′ : Ration} {x y : Session} {s t : List ℕ} → far ≡ far′ → x ≡ y → s ≡ t → look far x s ≡ look far′ y t

@@ -1,10 +1,9 @@
 -- The ways in which the wait of a number lapses by what happens to the number itself: its abort is taken, or an Abort, a Close or Data
 -- with the close flag is received for it.
-use Prim.Native.Nat.{ℕ, _<_}
+use Prim.Native.Nat.{ℕ}
 use mathlib.Core.Path.{_≡_}
 use mathlib.Core.Bool.{Bool, true, false}
 use mathlib.Core.List.{List}
-use lib.ListN.{length, getD}
 use Rattle.protocol.specs.Message.{data-of, increment-of, abort-of, close-of, acknowledgment-of}
 use Rattle.protocol.specs.Observed.{Event, opens, finishes, aborts, puts, received, wrote, lapses}
 
@@ -27,9 +26,3 @@ pub record Lasting : Type 0 where
   pub by-abort-written : (partial : Bool) → lapses (wrote (abort-of partial)) ≡ false
   pub by-close-written : lapses (wrote close-of) ≡ false
   pub by-acknowledgment-written : lapses (wrote acknowledgment-of) ≡ false
-
--- some event of a list is one by which a wait lapses
-pub record SomeLapsing (es : List Event) : Type 0 where
-  pub place : ℕ
-  pub inside : place < length es
-  pub lapsing : Lapsing (getD es place opens)
