@@ -1,11 +1,19 @@
--- Where a step leaves the place: a refusal and a violation keep it, a message moves it past its 4 header bytes and its body.
-use mathlib.Core.Path.{_≡_, refl, ap}
+-- Where a step leaves the place: a refusal and a violation keep it, a message moves it past its 4 header bytes and its body; and with which
+-- numbers it refuses.
+use mathlib.Core.Path.{_≡_, refl, sym, ap, _∙_}
+use mathlib.Core.Logic.{_⊎_, inl, inr}
+use mathlib.Core.Bool.{Bool, true, false}
 use mathlib.Core.List.{List}
 use Prim.Native.Nat.{ℕ, _+_}
+use lib.ListN.{length, drop}
+use lib.Dec.{ltb}
+use Rattle.laws.specs.Pick.{pick}
 use Rattle.laws.specs.Result.{Result, ok, refused, violation}
+use Rattle.laws.proofs.Results.{refused-same, violation-same, refused-not-ok, violation-not-ok, violation-not-refused}
 use Rattle.wire.specs.declared.Role.{Role}
 use Rattle.wire.specs.declared.Message.{Message}
-use Rattle.wire.specs.Message.{bodyLength}
+use Rattle.wire.specs.Message.{bodyLength, readMessage}
+use Rattle.wire.proofs.Bounds.{Only, isReaders, message-numbers}
 use Rattle.capture_rules.specs.Place.{messageAt, placeAfter, stepAt}
 
 pub refusal-stays : (place : ℕ) (r : Result Message) → ((m : Message) → r ≡ ok m → ⊥) → placeAfter place r ≡ place
@@ -22,3 +30,15 @@ module _ (from : Role) (s : List ℕ) (place : ℕ) where
   pub moves-past : (m : Message) → stepAt from s place .0 ≡ ok m → stepAt from s place .1 ≡ place + 4 + bodyLength m
   unfolding stepAt
   moves-past m e = ap (placeAfter place) e
+
+  -- 14 past the end, else 10, or a violation that the reader of messages finds
+  pub step-numbers : (n : ℕ) → (stepAt from s place .0 ≡ refused n → (n ≡ 14) ⊎ (n ≡ 10)) × (stepAt from s place .0 ≡ violation n → isReaders n ≡ true)
+  unfolding stepAt messageAt pick
+  step-numbers n = go (ltb (length s) place) (readMessage from (drop place s)) (message-numbers from (drop place s))
+    where
+      go : (b : Bool) (r : Result Message) → Only isReaders r
+          → (pick b (refused 14) r ≡ refused n → (n ≡ 14) ⊎ (n ≡ 10)) × (pick b (refused 14) r ≡ violation n → isReaders n ≡ true)
+      go true r h = ((λ e. inl (sym (refused-same e))), λ e. absurd (violation-not-refused (sym e)))
+      go false (ok m) h = ((λ e. absurd (refused-not-ok (sym e))), λ e. absurd (violation-not-ok (sym e)))
+      go false (refused k) h = ((λ e. inr (sym (refused-same e) ∙ h)), λ e. absurd (violation-not-refused (sym e)))
+      go false (violation k) h = ((λ e. absurd (violation-not-refused e)), λ e. sym (ap isReaders (violation-same e)) ∙ h)

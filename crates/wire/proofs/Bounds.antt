@@ -1,12 +1,12 @@
 -- What holds of every message that the reader gives, whatever stands in its input: its fields fit, and its sender may send it.
 use mathlib.Core.Path.{_≡_, refl, sym, ap, _∙_, subst}
-use mathlib.Core.Bool.{Bool, true, false}
+use mathlib.Core.Bool.{Bool, true, false, _||_}
 use mathlib.Core.List.{List}
 use Prim.Native.Nat.{ℕ, _+_, _*_, _/_, _%_, _<_}
 use native.Mathlib.Omega.{arith}
 use lib.ListN.{length, getD, take}
 use native.Mathlib.Nat.{mod-lt}
-use lib.Dec.{ltb, leb}
+use lib.Dec.{eqb, ltb, leb}
 use Rattle.laws.specs.Pick.{pick}
 use Rattle.laws.specs.Result.{Result, ok, refused, violation}
 use Rattle.laws.proofs.Results.{ok-same, refused-not-ok, violation-not-ok}
@@ -149,46 +149,64 @@ header-number s n q = go (ltb (length s) 8) q
     go true p = absurd (refused-not-ok p)
     go false p = parsed-number (take 8 s) n p
 
--- ---- what stands too short is refused with 10, and nothing else is refused; a violation is a number from 20 up
+-- ---- what stands too short is refused with 10, and nothing else is refused; of the violations only those that pass a test
 
-abbrev pub ShortOnly : {A : Type 0} → Result A → Type 0
-ShortOnly (ok a) = Unit {0}
-ShortOnly (refused n) = n ≡ 10
-ShortOnly (violation n) = leb 20 n ≡ true
+abbrev pub Only : {A : Type 0} → (ℕ → Bool) → Result A → Type 0
+Only v (ok a) = Unit {0}
+Only v (refused n) = n ≡ 10
+Only v (violation n) = v n ≡ true
 
-either : {A : Type 0} (p q : Result A) (b : Bool) → ShortOnly p → ShortOnly q → ShortOnly (pick b p q)
+either : {A : Type 0} (v : ℕ → Bool) (p q : Result A) (b : Bool) → Only v p → Only v q → Only v (pick b p q)
 unfolding pick
-either p q true hp hq = hp
-either p q false hp hq = hq
+either v p q true hp hq = hp
+either v p q false hp hq = hq
 
-parse-short : (from : Role) (h : List ℕ) (n : Named) → ShortOnly (typed from h n)
-unfolding typed allowed
-parse-short from h (Known k) =
-    let m = message k h in
-    let flags = either (ok m) (violation 24) (flagsAllowed from m) tt refl in
-    let sender = either (pick (flagsAllowed from m) (ok m) (violation 24)) (violation 23) (maySend from k) flags refl in
-    either (allowed from k m) (violation 21) (fixed (layout k) h) sender refl
-parse-short from h Unknown = refl
+module _ (v : ℕ → Bool) (h20 : v 20 ≡ true) (h21 : v 21 ≡ true) (h23 : v 23 ≡ true) (h24 : v 24 ≡ true) (from : Role) where
+  typed-only : (h : List ℕ) (n : Named) → Only v (typed from h n)
+  unfolding typed allowed
+  typed-only h (Known k) =
+      let m = message k h in
+      let flags = either v (ok m) (violation 24) (flagsAllowed from m) tt h24 in
+      let sender = either v (pick (flagsAllowed from m) (ok m) (violation 24)) (violation 23) (maySend from k) flags h23 in
+      either v (allowed from k m) (violation 21) (fixed (layout k) h) sender h21
+  typed-only h Unknown = h20
+
+  parsed-only : (h : List ℕ) → Only v (parseHeader from h)
+  unfolding parseHeader
+  parsed-only h = typed-only h (kindOf (getD h 0 0))
+
+  message-only : (s : List ℕ) → Only v (readMessage from s)
+  unfolding readMessage
+  message-only s =
+      let r = parseHeader from (take 4 s) in
+      either v (refused 10) (withBody (length s) r) (ltb (length s) 4) refl (body r (parsed-only (take 4 s)))
+    where
+      body : (r : Result Message) → Only v r → Only v (withBody (length s) r)
+      body (ok m) h = either v (ok m) (refused 10) (leb (4 + bodyLength m) (length s)) tt refl
+      body (refused n) h = h
+      body (violation n) h = h
+
+-- the violations that a reader of messages finds
+abbrev pub isReaders : ℕ → Bool
+isReaders n = eqb n 20 || eqb n 21 || eqb n 23 || eqb n 24
+
+pub message-numbers : (from : Role) (s : List ℕ) → Only isReaders (readMessage from s)
+message-numbers from s = message-only isReaders refl refl refl refl from s
+
+-- a violation is a number from 20 up
+abbrev pub ShortOnly : {A : Type 0} → Result A → Type 0
+ShortOnly r = Only (leb 20) r
 
 pub parsed-short : (from : Role) (h : List ℕ) → ShortOnly (parseHeader from h)
-unfolding parseHeader
-parsed-short from h = parse-short from h (kindOf (getD h 0 0))
+parsed-short from h = parsed-only (leb 20) refl refl refl refl from h
 
 pub message-short : (from : Role) (s : List ℕ) → ShortOnly (readMessage from s)
-unfolding readMessage
-message-short from s =
-    let r = parseHeader from (take 4 s) in
-    either (refused 10) (withBody (length s) r) (ltb (length s) 4) refl (body r (parsed-short from (take 4 s)))
-  where
-    body : (r : Result Message) → ShortOnly r → ShortOnly (withBody (length s) r)
-    body (ok m) h = either (ok m) (refused 10) (leb (4 + bodyLength m) (length s)) tt refl
-    body (refused n) h = h
-    body (violation n) h = h
+message-short from s = message-only (leb 20) refl refl refl refl from s
 
 pub connection-short : (h : List ℕ) → ShortOnly (parseConnectionHeader h)
 unfolding parseConnectionHeader
-connection-short h = either (ok (digits initialRation connectionLayout h 0)) (violation 22) (fixed connectionLayout h) tt refl
+connection-short h = either (leb 20) (ok (digits initialRation connectionLayout h 0)) (violation 22) (fixed connectionLayout h) tt refl
 
 pub header-short : (s : List ℕ) → ShortOnly (readConnectionHeader s)
 unfolding readConnectionHeader
-header-short s = either (refused 10) (parseConnectionHeader (take 8 s)) (ltb (length s) 8) refl (connection-short (take 8 s))
+header-short s = either (leb 20) (refused 10) (parseConnectionHeader (take 8 s)) (ltb (length s) 8) refl (connection-short (take 8 s))
