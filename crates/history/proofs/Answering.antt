@@ -32,7 +32,8 @@ use Rattle.history.specs.Log.{Call, start, open-session, put, finish, tu
 use Rattle.history.specs.Log as log
 use Rattle.history.proofs.Decisions.{decide, outBy, out-is}
 use Rattle.laws.specs.Runs.{fold}
-use Rattle.history.specs.Account.{Line, lineAfter, Account, askedOf, accountAfter, blankAccount, observed}
+use Rattle.history.specs.Meaning.{Line, meaning}
+use Rattle.history.specs.Account.{lineAfter, Account, accountAfter, blankAccount, observed}
 use Rattle.history.specs.Meant.{ungreeted}
 use Rattle.history.specs.Answers.{refusing, takenIf, ifUp, ifRoom, ifNumber, isPinging, isUnstarted, answerTold}
 use Rattle.history.specs.Claims.{AnswersExactly}
@@ -174,7 +175,7 @@ module _ (s : State) (formed : wellFormed (s .connection) ≡ true) where
 module _ (s : State) (o : Ok (setupOf (s .connection)) s) (formed : wellFormed (s .connection) ≡ true) where
   -- the number that a call names is one of the table, or the account does not matter
   answered : (k : Call) → outBy s k (decide (s .connection) (s .queue) k) .answer
-      ≡ answerTold (setupOf (s .connection)) (length (s .queue)) (accountOf s (askedOf k)) k (outBy s k (decide (s .connection) (s .queue) k) .answer)
+      ≡ answerTold (setupOf (s .connection)) (length (s .queue)) (accountOf s (meaning k .number)) k (outBy s k (decide (s .connection) (s .queue) k) .answer)
   unfolding startRule openRule putRule finishRule grantRule abortRule closeRule pingRule shutdownRule lostRule settle
   answered (start room) =
       formed-first s (start room) _ formed
@@ -239,7 +240,7 @@ module _ (s : Setup) (q : ℕ) (a b : Account) (e : a .line ≡ b .line) where
   up-same : {x y : Result Report} → x ≡ y → ifUp (a .line) x ≡ ifUp (b .line) y
   up-same p = rw (e, p)
 
-  unknown : (k : Call) (rest : Result Report) → leb 128 (askedOf k) ≡ true → answerTold s q a k rest ≡ answerTold s q b k rest
+  unknown : (k : Call) (rest : Result Report) → leb 128 (meaning k .number) ≡ true → answerTold s q a k rest ≡ answerTold s q b k rest
   unknown (start room) rest h = absurd (false≢true h)
   unknown (open-session n) rest h = up-same (beyond n h _ _)
   unknown (put n bytes) rest h = up-same (ap (refusing (not (eqb q queueSize)) 8) (beyond n h _ _))
@@ -262,29 +263,29 @@ module _ (setup : Setup) (hh : Proper setup) (queue : List ℕ) where
       line-of-any setup n 0 (log.log setup queue ks) (blankAccount setup) (blankAccount setup) refl
       ∙ ap (λ (a : Account). a .line) (observed-is setup hh queue ks 0 (omega arith))
 
-  told-calls : (ks : List Call) (k : Call) (rest : Result Report) → answerTold setup (length queue) (accountOf (log.run setup queue ks) (askedOf k)) k rest
-      ≡ answerTold setup (length queue) (observed setup (askedOf k) (log.log setup queue ks)) k rest
-  told-calls ks k rest = go (leb 128 (askedOf k)) refl
+  told-calls : (ks : List Call) (k : Call) (rest : Result Report) → answerTold setup (length queue) (accountOf (log.run setup queue ks) (meaning k .number)) k rest
+      ≡ answerTold setup (length queue) (observed setup (meaning k .number) (log.log setup queue ks)) k rest
+  told-calls ks k rest = go (leb 128 (meaning k .number)) refl
     where
-      go : (b : Bool) → leb 128 (askedOf k) ≡ b → answerTold setup (length queue) (accountOf (log.run setup queue ks) (askedOf k)) k rest
-          ≡ answerTold setup (length queue) (observed setup (askedOf k) (log.log setup queue ks)) k rest
-      go true e = unknown setup (length queue) _ _ (sym (line-is (askedOf k) ks)) k rest e
-      go false e = ap (λ (a : Account). answerTold setup (length queue) a k rest) (sym (observed-is setup hh queue ks (askedOf k) (leb-false 128 (askedOf k) e)))
+      go : (b : Bool) → leb 128 (meaning k .number) ≡ b → answerTold setup (length queue) (accountOf (log.run setup queue ks) (meaning k .number)) k rest
+          ≡ answerTold setup (length queue) (observed setup (meaning k .number) (log.log setup queue ks)) k rest
+      go true e = unknown setup (length queue) _ _ (sym (line-is (meaning k .number) ks)) k rest e
+      go false e = ap (λ (a : Account). answerTold setup (length queue) a k rest) (sym (observed-is setup hh queue ks (meaning k .number) (leb-false 128 (meaning k .number) e)))
 
   answered-calls : (ks : List Call) (k : Call) → out (log.run setup queue ks) k .answer
-      ≡ answerTold setup (length queue) (observed setup (askedOf k) (log.log setup queue ks)) k (out (log.run setup queue ks) k .answer)
+      ≡ answerTold setup (length queue) (observed setup (meaning k .number) (log.log setup queue ks)) k (out (log.run setup queue ks) k .answer)
   answered-calls ks k =
       let s = log.run setup queue ks in
       let o = run-made setup hh queue ks in
       let x = outBy s k (decide (s .connection) (s .queue) k) .answer in
       rw out-is
       (answered s (own-ok setup s o) (ok-formed setup s o) k
-      ∙ ap (λ (z : Setup). answerTold z (length (s .queue)) (accountOf s (askedOf k)) k x) (same-setup setup s o)
-      ∙ ap (λ (n : ℕ). answerTold setup n (accountOf s (askedOf k)) k x) (run-long setup (made setup queue) ks (made-ok setup hh queue))
+      ∙ ap (λ (z : Setup). answerTold z (length (s .queue)) (accountOf s (meaning k .number)) k x) (same-setup setup s o)
+      ∙ ap (λ (n : ℕ). answerTold setup n (accountOf s (meaning k .number)) k x) (run-long setup (made setup queue) ks (made-ok setup hh queue))
       ∙ told-calls ks k x)
 
   -- of every role, header number, queue and list of calls
   pub answers-exactly : (calls : List Call) → AnswersExactly setup (length queue) (log.log setup queue calls)
   unfolding out
   answers-exactly calls a c e z =
-      of-entries setup queue (λ g x. x .answer ≡ answerTold setup (length queue) (observed setup (askedOf (x .call)) g) (x .call) (x .answer)) answered-calls calls a c e z
+      of-entries setup queue (λ g x. x .answer ≡ answerTold setup (length queue) (observed setup (meaning (x .call) .number) g) (x .call) (x .answer)) answered-calls calls a c e z

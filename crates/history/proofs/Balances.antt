@@ -26,7 +26,8 @@ use Rattle.protocol.proofs.Streams.{Flows, Fair, fair-all, seen-all}
 use Rattle.history.specs.Log.{Call, State, next, out, made, Proper}
 use Rattle.history.specs.Log as log
 use Rattle.history.proofs.Decisions.{decide, nextBy, outBy, next-is, out-is}
-use Rattle.history.specs.Account.{Line, lineAfter, Account, events, accountAfter, farOf}
+use Rattle.history.specs.Meaning.{Line}
+use Rattle.history.specs.Account.{lineAfter, Account, events, accountAfter, farOf}
 use Rattle.history.specs.Sums.{Sum, blankSum, sumAfter, summed}
 use Rattle.history.proofs.Good.{Ok, base, Good, setupOf, lineOf, holds, ownOf, farBy}
 use Rattle.history.proofs.Receives.{GoodBy}

@@ -25,7 +25,8 @@ use Rattle.protocol.proofs.Views.{greeted-is, ready-look}
 use Rattle.history.specs.Log.{Call, start, open-session, put, finish, turn, grant, abort, close, shutdown, lost, receive, State, Entry, next, out, made, Proper}
 use Rattle.history.specs.Log as log
 use Rattle.history.proofs.Decisions.{decide, nextBy, outBy, next-is, out-is}
-use Rattle.history.specs.Account.{Line, Account, observed}
+use Rattle.history.specs.Meaning.{Line}
+use Rattle.history.specs.Account.{Account, observed}
 use Rattle.history.specs.Claims.{ready, dataWritten, lastServed, waitingBytes, Serves, MayTurn, NothingReady, Turns, BoundedWaiting}
 use Rattle.history.proofs.Good.{isTurn, Ok, setupOf, lineOf, holds, one}
 use Rattle.history.proofs.Violations.{broken-no-data}

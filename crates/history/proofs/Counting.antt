@@ -32,7 +32,8 @@ use Rattle.history.specs.Log.{Call, State, Entry, out, Proper}
 use Rattle.history.specs.Log as log
 use Rattle.history.proofs.Decisions.{decide, outBy, out-is}
 use Rattle.history.specs.Written.{allWritten}
-use Rattle.history.specs.Account.{Account, only, events, reported, reportedOf, farOf, observed, outputSeen}
+use Rattle.history.specs.Meaning.{only}
+use Rattle.history.specs.Account.{Account, events, reported, reportedOf, farOf, observed, outputSeen}
 use Rattle.history.specs.Sums.{Sum, blankSum, sumAfter, summed}
 use Rattle.history.specs.Claims.{dataNumber, lateOf, RationLedger, PutStream}
 use Rattle.history.proofs.InOrder.{reads-alone}

@@ -17,7 +17,8 @@ use Rattle.protocol.specs.Judge.{Report, done, served, header-received, message
 use Rattle.protocol.specs.Observed.{Event, opens, finishes, aborts, puts, received, wrote, lapses, anyLapse}
 use Rattle.history.specs.Log.{Call, start, open-session, put, finish, turn, grant, abort, close, shutdown, lost, receive, Entry}
 use Rattle.history.specs.Log as log
-use Rattle.history.specs.Account.{only, inScope, outputSeen, eventsByAnswer, lineByAnswer, blankAccount}
+use Rattle.history.specs.Meaning.{only}
+use Rattle.history.specs.Account.{inScope, outputSeen, eventsByAnswer, lineByAnswer, blankAccount}
 use Rattle.history.specs.Written.{allWritten}
 use Rattle.history.specs.Claims.{lapse}
 use Rattle.history.proofs.Written.{only-own}

@@ -33,7 +33,8 @@ use Rattle.protocol.proofs.Views.{greetingOf, greeted-is}
 use Rattle.history.specs.Log.{Call, receive, State, Entry, out, Proper}
 use Rattle.history.specs.Log as log
 use Rattle.history.proofs.Decisions.{outBy, out-is}
-use Rattle.history.specs.Account.{Line, Account, observed}
+use Rattle.history.specs.Meaning.{Line}
+use Rattle.history.specs.Account.{Account, observed}
 use Rattle.history.specs.Meant.{headerDue}
 use Rattle.history.specs.Claims.{Listening, Awaiting, headerAnswer, Stands, ReceiveReads}
 use Rattle.history.proofs.Good.{setupOf, lineOf}

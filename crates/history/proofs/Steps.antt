@@ -29,7 +29,7 @@ use Rattle.protocol.proofs.Fates.{Fated, Unfated, open-fate, finish-fate, grant
 use Rattle.protocol.proofs.Sends.{Sends, open-sends, finish-sends, grant-sends, abort-sends, close-sends}
 use Rattle.protocol.proofs.Asks.{open-sound, finish-sound, grant-sound, abort-sound, close-sound}
 use Rattle.history.specs.Log.{Call, open-session, finish, grant, abort, close, State}
-use Rattle.history.specs.Meant.{askedToSend}
+use Rattle.history.specs.Meaning.{meaning}
 use Rattle.history.proofs.Good.{Ok, Good, ForSession, setupOf, holds}
 use Rattle.history.proofs.Sessions.{session-good}
 use Rattle.history.proofs.Written.{only-own, only-other}
@@ -165,7 +165,7 @@ module _ (s : State) (o : Ok (setupOf (s .connection)) s) where
   abort-good n partial room _ live up _ num =
       let hn = leb-false 128 n num in
       let hu = not-false (exchanged (s .connection .stage)) up in
-      quiet-good (abort n partial room) n (aborts ∷ []) (askedToSend (abort n partial room) (holds s n)) Unit (abortAsk (roleOf (s .connection .stage)) (at (s .connection) n) partial)
+      quiet-good (abort n partial room) n (aborts ∷ []) (meaning (abort n partial room) .sends (holds s n)) Unit (abortAsk (roleOf (s .connection .stage)) (at (s .connection) n) partial)
       (λ t snd sends fate w. record {
         mark = refl;
         turns = refl;

@@ -34,7 +34,8 @@ use Rattle.protocol.proofs.Exact.{receipt-exact}
 use Rattle.history.specs.Log.{Call, receive, State, Entry, out, Proper}
 use Rattle.history.specs.Log as log
 use Rattle.history.proofs.Decisions.{outBy, out-is}
-use Rattle.history.specs.Account.{Line, Account, observed}
+use Rattle.history.specs.Meaning.{Line}
+use Rattle.history.specs.Account.{Account, observed}
 use Rattle.history.specs.Claims.{Listening, wholeMayArrive, mayCome, lateOf, wrongFor, TakesExactly}
 use Rattle.history.proofs.Good.{Ok, lineOf, holds}
 use Rattle.history.proofs.Steps.{formed-up}

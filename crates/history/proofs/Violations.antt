@@ -27,7 +27,8 @@ use Rattle.protocol.proofs.Views.{greetingOf}
 use Rattle.protocol.proofs.Fates.{endedBy}
 use Rattle.history.specs.Log.{Call, receive, State}
 use Rattle.history.specs.Written.{writtenUpTo, allWritten}
-use Rattle.history.specs.Account.{Line, withGreeting, Account}
+use Rattle.history.specs.Meaning.{Line, withGreeting}
+use Rattle.history.specs.Account.{Account}
 use Rattle.history.specs.Fates.{endTold}
 use Rattle.history.specs.Meant.{ungreeted, meantBy, ReadInOrder, mayGo}
 use Rattle.history.specs.Claims.{dataNumber, dataWritten, errorBytes}

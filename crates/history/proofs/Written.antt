@@ -22,7 +22,8 @@ use Rattle.protocol.specs.Result.{bytesOf, bytesOfAll}
 use Rattle.protocol.specs.Observed.{Event, wrote, fromRole}
 use Rattle.protocol.proofs.Sound.{Fits, carried}
 use Rattle.protocol.proofs.Reports.{used-is}
-use Rattle.history.specs.Account.{only, inScope, outputSeen}
+use Rattle.history.specs.Meaning.{only}
+use Rattle.history.specs.Account.{inScope, outputSeen}
 use Rattle.history.specs.Meant.{ReadInOrder}
 
 -- ---- a message without a body, or with one

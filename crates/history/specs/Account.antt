@@ -1,9 +1,7 @@
 -- What a log tells, of the connection and of each session number; the engine's state is not named.
 use Prim.Native.Nat.{ℕ}
-use mathlib.Core.Bool.{Bool, true, false}
-use mathlib.Core.List.{List, [], _∷_, _++_}
-use lib.Dec.{eqb}
-use Rattle.laws.specs.Pick.{pick}
+use mathlib.Core.Bool.{false}
+use mathlib.Core.List.{List, [], _++_}
 use Rattle.laws.specs.Result.{Result, ok, refused, violation}
 use Rattle.laws.specs.Runs.{fold, gather}
 use Rattle.ration.specs.declared.Ration.{Ration}
@@ -13,43 +11,15 @@ use Rattle.wire.specs.declared.Role.{Role}
 use Rattle.state.specs.declared.Setup.{Setup}
 use Rattle.protocol.specs.Message.{no-operation-of, shutdown-of, error-of, ping-of, ping-ack-of, SessionMessage, Scope, whole, of-session, scope}
 use Rattle.protocol.specs.Judge.{Report, done, served, header-received, message, Output, header-out, sent}
-use Rattle.protocol.specs.Observed.{Greeting, no-header, own-header, both-headers, startTold, Pinging, no-ping, pinged, Event, opens, finishes, aborts, puts, received, wrote, silent, unused, Seen, observe}
-use Rattle.history.specs.Log.{Call, start, open-session, put, finish, turn, grant, abort, close, shutdown, lost, receive, Entry}
+use Rattle.protocol.specs.Observed.{no-header, both-headers, startTold, no-ping, Event, received, wrote, silent, unused, Seen, observe}
+use Rattle.history.specs.Log.{Call, Entry}
 use Rattle.history.specs.Log as log
+use Rattle.history.specs.Meaning.{Line, lineOver, withGreeting, withPinging, only, meaning}
 use Rattle.history.specs.Written.{allWritten}
 
--- ---- of the connection: whether it is over, the headers so far, the ping that is not answered
+-- ---- of the connection
 
-pub record Line : Type 0 where
-  pub over : Bool
-  pub greeting : Greeting
-  pub pinging : Pinging
-
-abbrev pub lineOver : Line → Line
-lineOver l = record { over = true; greeting = l .greeting; pinging = l .pinging }
-
-abbrev pub withGreeting : Greeting → Line → Line
-withGreeting g l = record { over = l .over; greeting = g; pinging = l .pinging }
-
-abbrev pub withPinging : Pinging → Line → Line
-withPinging p l = record { over = l .over; greeting = l .greeting; pinging = p }
-
--- a lost line and our shutdown make it over
-abbrev pub lineByCall : Line → Call → Line
-lineByCall l (start room) = withGreeting own-header l
-lineByCall l (open-session n) = l
-lineByCall l (put n bytes) = l
-lineByCall l (finish n) = l
-lineByCall l (turn room) = l
-lineByCall l (grant n amount room) = l
-lineByCall l (abort n partial room) = l
-lineByCall l (close n room) = l
-lineByCall l (log.ping cookie room) = withPinging (pinged cookie) l
-lineByCall l (shutdown room) = lineOver l
-lineByCall l lost = lineOver l
-lineByCall l (receive input room) = l
-
--- and so do a Shutdown or an Error taken
+-- a Shutdown and an Error that are taken make it over
 abbrev pub lineByMessage : Line → Scope → Line
 lineByMessage l (whole no-operation-of) = l
 lineByMessage l (whole shutdown-of) = lineOver l
@@ -59,7 +29,7 @@ lineByMessage l (whole (ping-ack-of k)) = withPinging no-ping l
 lineByMessage l (of-session i m) = l
 
 abbrev pub lineByReport : Line → Call → Report → Line
-lineByReport l k done = lineByCall l k
+lineByReport l k done = meaning k .line l
 lineByReport l k (served n) = l
 lineByReport l k (header-received far) = withGreeting (both-headers far) l
 lineByReport l k (message m late) = lineByMessage l (scope m)
@@ -75,31 +45,13 @@ lineAfter l e = lineByAnswer l (e .call) (e .answer)
 
 -- ---- of a session number: what happens to it
 
-abbrev pub only : ℕ → ℕ → Event → List Event
-only n i e = pick (eqb i n) (e ∷ []) []
-
--- what one of our calls that is taken does
-abbrev pub asked : ℕ → Call → List Event
-asked n (start room) = []
-asked n (open-session i) = only n i opens
-asked n (put i bytes) = only n i (puts bytes)
-asked n (finish i) = only n i finishes
-asked n (turn room) = []
-asked n (grant i amount room) = []
-asked n (abort i partial room) = only n i aborts
-asked n (close i room) = []
-asked n (log.ping cookie room) = []
-asked n (shutdown room) = []
-asked n lost = []
-asked n (receive input room) = []
-
 abbrev pub inScope : ℕ → (SessionMessage → Event) → Scope → List Event
 inScope n f (whole w) = []
 inScope n f (of-session i m) = only n i (f m)
 
 -- a message that is taken, by the report
 abbrev pub reported : ℕ → Call → Report → List Event
-reported n k done = asked n k
+reported n k done = meaning k .told n
 reported n k (served i) = []
 reported n k (header-received far) = []
 reported n k (message m late) = inScope n received (scope m)
@@ -125,26 +77,12 @@ events r n e = eventsByAnswer r n (e .call) (e .wrote) (e .answer)
 
 -- ---- the number that an entry concerns, 0 where it concerns the connection as a whole
 
-abbrev pub askedOf : Call → ℕ
-askedOf (start room) = 0
-askedOf (open-session n) = n
-askedOf (put n bytes) = n
-askedOf (finish n) = n
-askedOf (turn room) = 0
-askedOf (grant n amount room) = n
-askedOf (abort n partial room) = n
-askedOf (close n room) = n
-askedOf (log.ping cookie room) = 0
-askedOf (shutdown room) = 0
-askedOf lost = 0
-askedOf (receive input room) = 0
-
 abbrev pub sessionIn : Scope → ℕ
 sessionIn (whole w) = 0
 sessionIn (of-session i m) = i
 
 abbrev pub reportedOf : Call → Report → ℕ
-reportedOf k done = askedOf k
+reportedOf k done = meaning k .number
 reportedOf k (served n) = n
 reportedOf k (header-received far) = 0
 reportedOf k (message m late) = sessionIn (scope m)

@@ -13,7 +13,8 @@ use Rattle.protocol.specs.Judge.{Report, done}
 use Rattle.protocol.specs.Observed.{Greeting, no-header, own-header, both-headers, greeted, Pinging, no-ping, pinged}
 use Rattle.protocol.specs.Asked.{mayAskOpen, openNumber, mayPut, putNumber, mayFinish, mayAskGrant, grantNumber, mayAskAbort, abortNumber, mayAskClose, closeNumber}
 use Rattle.history.specs.Log.{Call, start, open-session, put, finish, turn, grant, abort, close, ping, shutdown, lost, receive}
-use Rattle.history.specs.Account.{Line, Account}
+use Rattle.history.specs.Meaning.{Line}
+use Rattle.history.specs.Account.{Account}
 use Rattle.history.specs.Meant.{ungreeted}
 
 -- the first check that holds refuses with its number

@@ -35,7 +35,8 @@ use Rattle.protocol.specs.Totals.{blankLedger, Balanced, Covers}
 use Rattle.history.specs.Log.{Call, put, turn, ping, receive, roomOf, State, called, Entry, next, out, run}
 use Rattle.history.specs.Log as log
 use Rattle.history.specs.Written.{allWritten}
-use Rattle.history.specs.Account.{Account, lineAfter, events, concerned, askedOf, farOf, observed, blankAccount}
+use Rattle.history.specs.Meaning.{meaning}
+use Rattle.history.specs.Account.{Account, lineAfter, events, concerned, farOf, observed, blankAccount}
 use Rattle.history.specs.Held.{accountOf}
 use Rattle.history.specs.Answers.{answerTold}
 use Rattle.history.specs.Meant.{headerDue, meantBy, ReadInOrder, mayGo}
@@ -211,7 +212,7 @@ pub record RoomBehind (s : State) (k : Call) : Type 0 where
 abbrev pub AnswersExactly : Setup → ℕ → List Entry → Type 0
 AnswersExactly s queue log =
     (a c : List Entry) (e : Entry) → log ≡ a ++ (e ∷ c)
-    → e .answer ≡ answerTold s queue (observed s (askedOf (e .call)) a) (e .call) (e .answer)
+    → e .answer ≡ answerTold s queue (observed s (meaning (e .call) .number) a) (e .call) (e .answer)
 
 -- ---- a message is taken exactly where 002 lets the far end send it, but that an Acknowledgment need not have been asked for
 

@@ -7,25 +7,12 @@ use Rattle.state.specs.declared.Setup.{Setup}
 use Rattle.protocol.specs.Message.{no-operation-of, shutdown-of, error-of, ping-of, ping-ack-of, Scope, whole, of-session, scope}
 use Rattle.protocol.specs.Judge.{Report, done, served, header-received, message}
 use Rattle.protocol.specs.Asked.{isUnsent}
-use Rattle.protocol.specs.Fate.{Fate, no-fate, fateAfter, Ended, not-ended, by-shutdown, by-error, by-own-shutdown, by-lost-line, fateEnded}
-use Rattle.history.specs.Log.{Call, start, open-session, put, finish, turn, grant, abort, close, ping, shutdown, lost, receive, Entry}
+use Rattle.protocol.specs.Fate.{Fate, no-fate, fateAfter, Ended, not-ended, by-shutdown, by-error, by-lost-line, fateEnded}
+use Rattle.history.specs.Log.{Call, Entry}
+use Rattle.history.specs.Meaning.{meaning}
 use Rattle.history.specs.Account.{Account, toldBy, blankAccount, accountAfter}
 
 -- ---- how an entry ends the connection
-
-abbrev pub endedByCall : Call → Ended
-endedByCall (start room) = not-ended
-endedByCall (open-session n) = not-ended
-endedByCall (put n bytes) = not-ended
-endedByCall (finish n) = not-ended
-endedByCall (turn room) = not-ended
-endedByCall (grant n amount room) = not-ended
-endedByCall (abort n partial room) = not-ended
-endedByCall (close n room) = not-ended
-endedByCall (ping cookie room) = not-ended
-endedByCall (shutdown room) = by-own-shutdown
-endedByCall lost = by-lost-line
-endedByCall (receive input room) = not-ended
 
 abbrev pub endedByMessage : Scope → Ended
 endedByMessage (whole no-operation-of) = not-ended
@@ -37,7 +24,7 @@ endedByMessage (of-session i m) = not-ended
 
 -- a violation found by us counts as a lost line
 abbrev pub endTold : Call → Result Report → Ended
-endTold k (ok done) = endedByCall k
+endTold k (ok done) = meaning k .ended
 endTold k (ok (served n)) = not-ended
 endTold k (ok (header-received far)) = not-ended
 endTold k (ok (message m late)) = endedByMessage (scope m)

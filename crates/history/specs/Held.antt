@@ -6,7 +6,8 @@ use Rattle.protocol.specs.Connection.{at, farStart}
 use Rattle.protocol.specs.Observed.{Seen}
 use Rattle.protocol.specs.Held.{look, greetingOf, pingingOf}
 use Rattle.history.specs.Log.{State}
-use Rattle.history.specs.Account.{Line, Account}
+use Rattle.history.specs.Meaning.{Line}
+use Rattle.history.specs.Account.{Account}
 
 abbrev pub lineOf : Connection → Line
 lineOf c = record { over = c .over; greeting = greetingOf (c .stage); pinging = pingingOf (c .ping) }

@@ -12,11 +12,11 @@ use Rattle.wire.specs.declared.Message.the-variants as msg
 use Rattle.wire.specs.Message.{isClient, isServer, bodyLength, readMessage}
 use Rattle.wire.specs.Connection.{readConnectionHeader}
 use Rattle.state.specs.declared.Setup.{Setup}
-use Rattle.protocol.specs.Message.{ConnectionMessage, no-operation-of, shutdown-of, error-of, ping-of, ping-ack-of, SessionMessage, increment-of, abort-of, close-of, Scope, whole, of-session, scope, numbered}
+use Rattle.protocol.specs.Message.{ConnectionMessage, no-operation-of, shutdown-of, error-of, ping-of, ping-ack-of, SessionMessage, Scope, whole, of-session, scope, numbered}
 use Rattle.protocol.specs.Judge.{Report, done, served, header-received, message, Output, header-out, sent}
 use Rattle.protocol.specs.Observed.{Greeting, no-header, own-header, both-headers, greeted, Seen, repliesTo, dueData, mayWrite, fromRole}
-use Rattle.protocol.specs.Asked.{isUnsent}
-use Rattle.history.specs.Log.{Call, start, open-session, put, finish, turn, grant, abort, close, ping, shutdown, lost, receive, Entry}
+use Rattle.history.specs.Log.{Call, Entry}
+use Rattle.history.specs.Meaning.{meaning}
 use Rattle.history.specs.Account.{Account, concerned, farOf, seenBefore}
 
 -- ---- what is meant
@@ -33,46 +33,16 @@ headerDue r no-header = isServer r
 headerDue r own-header = true
 headerDue r (both-headers far) = false
 
--- of the session that one of our calls names; the abort of an open that is unsent means nothing
-abbrev pub askedToSend : Call → Seen → List SessionMessage
-askedToSend (start room) v = []
-askedToSend (open-session n) v = []
-askedToSend (put n bytes) v = []
-askedToSend (finish n) v = []
-askedToSend (turn room) v = []
-askedToSend (grant n amount room) v = increment-of amount ∷ []
-askedToSend (abort n partial room) v = pick (isUnsent (v .sends)) [] (abort-of partial ∷ [])
-askedToSend (close n room) v = close-of ∷ []
-askedToSend (ping cookie room) v = []
-askedToSend (shutdown room) v = []
-askedToSend lost v = []
-askedToSend (receive input room) v = []
-
 abbrev pub answeredIn : Role → Seen → Scope → List SessionMessage
 answeredIn r v (whole w) = []
 answeredIn r v (of-session i m) = repliesTo r v m
 
 -- a turn sends what is due, a message received gets its answer
 abbrev pub meantFor : Role → Call → Report → Seen → List SessionMessage
-meantFor r k done v = askedToSend k v
+meantFor r k done v = meaning k .sends v
 meantFor r k (served n) v = dueData v ∷ []
 meantFor r k (header-received far) v = []
 meantFor r k (message m late) v = answeredIn r v (scope m)
-
--- of the connection as a whole: a client's start is its header, a ping Ping, a shutdown Shutdown
-abbrev pub askedOfAll : ℕ → Call → List Output
-askedOfAll own (start room) = header-out own ∷ []
-askedOfAll own (open-session n) = []
-askedOfAll own (put n bytes) = []
-askedOfAll own (finish n) = []
-askedOfAll own (turn room) = []
-askedOfAll own (grant n amount room) = []
-askedOfAll own (abort n partial room) = []
-askedOfAll own (close n room) = []
-askedOfAll own (ping cookie room) = sent (msg.Ping cookie) ∷ []
-askedOfAll own (shutdown room) = sent (msg.Shutdown 0) ∷ []
-askedOfAll own lost = []
-askedOfAll own (receive input room) = []
 
 -- a Ping is answered with a PingAck of its cookie
 abbrev pub answerOfAll : Scope → List Output
@@ -85,7 +55,7 @@ answerOfAll (of-session i m) = []
 
 -- a server answers the first header with its own
 abbrev pub meantOfAll : Setup → Call → Report → List Output
-meantOfAll s k done = askedOfAll (s .header) k
+meantOfAll s k done = meaning k .writes (s .header)
 meantOfAll s k (served n) = []
 meantOfAll s k (header-received far) = pick (isServer (s .role)) (header-out (s .header) ∷ []) []
 meantOfAll s k (message m late) = answerOfAll (scope m)

@@ -7,7 +7,8 @@ use Rattle.ration.specs.Ration.{fromHeader}
 use Rattle.state.specs.declared.Setup.{Setup}
 use Rattle.protocol.specs.Totals.{blankLedger, Totals, addUp}
 use Rattle.history.specs.Log.{Entry}
-use Rattle.history.specs.Account.{Line, lineAfter, events, blankAccount, farOf}
+use Rattle.history.specs.Meaning.{Line}
+use Rattle.history.specs.Account.{lineAfter, events, blankAccount, farOf}
 
 pub record Sum : Type 0 where
   pub line : Line
