@@ -1,6 +1,6 @@
 //! An independent second implementation of one end of the Jini ERI multiplexing protocol.
 //!
-//! It was written from three papers alone: 01-scope.md, document 002 and REPLAY.md. Its points
+//! It was written from three papers alone: 01-scope.md, document 002 and the script format (docs/SCRIPTS.md). Its points
 //! of doubt, and the readings taken, are in READINGS.md.
 
 pub mod clock;

@@ -13,7 +13,7 @@ const HELP: &str = "\
 peer: an independent second implementation of one end of the Jmux protocol
 
 peer play < SCRIPT
-    Plays the script on standard input and prints one line for each call, as REPLAY.md says.
+    Plays the script on standard input and prints one line for each call, as docs/SCRIPTS.md says.
     A line that is no call ends the run with `script error at line N`; the exit status is 0.
 
 peer make --seed N [--calls M]

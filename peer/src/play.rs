@@ -1,4 +1,4 @@
-//! Plays a script on one end of a connection and prints REPLAY.md's lines.
+//! Plays a script on one end of a connection and prints docs/SCRIPTS.md's lines.
 
 use crate::cover::Cover;
 use crate::engine::{Engine, Phase, Taken, QUEUE_LENGTH};

@@ -1,4 +1,4 @@
-//! The script language of REPLAY.md: lines to calls, and calls to lines.
+//! The script language of docs/SCRIPTS.md: lines to calls, and calls to lines.
 
 mod lines;
 mod read;
@@ -61,7 +61,7 @@ pub enum Call {
     Queue { id: u8 },
 }
 
-/// Every first word of a call, in REPLAY.md's order.
+/// Every first word of a call, in docs/SCRIPTS.md's order.
 pub const WORDS: [&str; 14] = [
     "start", "open", "put", "finish", "turn", "grant", "abort", "close", "ping", "shutdown",
     "lost", "receive", "state", "queue",

@@ -263,7 +263,7 @@ impl Data {
 }
 
 impl fmt::Display for Message {
-    /// Writes the message as REPLAY.md's MESSAGE.
+    /// Writes the message as docs/SCRIPTS.md's MESSAGE.
     fn fmt(&self, f: &mut fmt::Formatter<'_>) -> fmt::Result {
         match *self {
             Message::NoOperation { length } => write!(f, "noop length {length}"),
