@@ -6,5 +6,6 @@ pub mod Ledgers
 pub mod Breaks
 pub mod Lapses
 pub mod Waiting
+pub mod Told
 pub mod Filling
 pub mod Full
