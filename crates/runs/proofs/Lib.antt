@@ -7,5 +7,6 @@ pub mod Breaks
 pub mod Lapses
 pub mod Waiting
 pub mod Told
+pub mod Uses
 pub mod Filling
 pub mod Full
