@@ -27,4 +27,5 @@ pub mod Answering
 pub mod Outcomes
 pub mod Ends
 pub mod LapsesOnly
+pub mod Over
 pub mod Rooms
