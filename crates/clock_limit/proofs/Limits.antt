@@ -1,6 +1,6 @@
 -- What a limit is in numbers: the fixed one, 1000 before any sample, a margin of at least 1, and the settings refused with 12.
 use mathlib.Core.Path.{_≡_, refl, ap, _∙_}
-use mathlib.Core.Bool.{Bool, true, false, cond}
+use mathlib.Core.Bool.{true, false}
 use lib.Ieee.{Float, add, mul, div, lt, le, ofInt}
 use Rattle.laws.specs.Pick.{pick}
 use Rattle.laws.specs.Result.{ok, refused}
@@ -27,13 +27,13 @@ before-any-sample floor ceiling clock e = ap (held floor ceiling) (no _ _ _ e)
 pub least-margin : (clock : Clock) → clock .sampled ≡ true → lt (wholeNumber 1) (wholeNumber 4 ⊗ clock .deviation) ≡ false
     → measured clock ≡ clock .smoothed ⊕ wholeNumber 1
 unfolding measured
-least-margin clock e m = yes _ _ _ e ∙ ap (λ (b : Bool). clock .smoothed ⊕ cond b (wholeNumber 4 ⊗ clock .deviation) (wholeNumber 1)) m
+least-margin clock e m = yes _ _ _ e ∙ ap (λ (x : Float). clock .smoothed ⊕ x) (no _ _ _ m)
 
 -- one above 1 counts as it is
 pub margin-above : (clock : Clock) → clock .sampled ≡ true → lt (wholeNumber 1) (wholeNumber 4 ⊗ clock .deviation) ≡ true
     → measured clock ≡ clock .smoothed ⊕ wholeNumber 4 ⊗ clock .deviation
 unfolding measured
-margin-above clock e m = yes _ _ _ e ∙ ap (λ (b : Bool). clock .smoothed ⊕ cond b (wholeNumber 4 ⊗ clock .deviation) (wholeNumber 1)) m
+margin-above clock e m = yes _ _ _ e ∙ ap (λ (x : Float). clock .smoothed ⊕ x) (yes _ _ _ m)
 
 -- ---- in numbers, by computation
 

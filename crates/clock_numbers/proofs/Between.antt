@@ -1,8 +1,9 @@
 -- What is held between a floor and a ceiling lies between them, whatever it is, NaN too; from the definition of `held`.
 use mathlib.Core.Path.{_≡_, refl, sym, _∙_}
-use mathlib.Core.Bool.{Bool, true, false, _||_, cond, false≢true}
+use mathlib.Core.Bool.{Bool, true, false, _||_, false≢true}
 use lib.Ieee.{Float, nan, inf, fin, lt, le, eq, ne}
 use lib.Ieee.Compare.{differs-from-itself}
+use Rattle.laws.specs.Pick.{pick}
 use Rattle.clock_numbers.specs.Arithmetic.{larger, held, Between}
 
 lt→le : (x y : Float) → lt x y ≡ true → le x y ≡ true
@@ -38,9 +39,10 @@ module _ (floor ceiling : Float) (order : le floor ceiling ≡ true) where
   at-ceiling = le-itself ceiling (λ e. false≢true (sym (le-nan floor) ∙ rw e at order))
 
   pub held-between : (x : Float) → Between floor ceiling (held floor ceiling x)
+  unfolding pick
   held-between x = go (lt floor x) (lt (larger floor x) ceiling) refl refl
     where
-      go : (a b : Bool) → lt floor x ≡ a → lt (cond a x floor) ceiling ≡ b → Between floor ceiling (cond b (cond a x floor) ceiling)
+      go : (a b : Bool) → lt floor x ≡ a → lt (pick a x floor) ceiling ≡ b → Between floor ceiling (pick b (pick a x floor) ceiling)
       go true true p q = (lt→le floor x p, lt→le x ceiling q)
       go false true p q = (at-floor, order)
       go a false p q = (order, at-ceiling)

@@ -15,6 +15,7 @@ use lib.Ieee.Order.{drop, kept, round-mono}
 use lib.Ieee.Positive.{positive-of-value, values-of-le}
 use lib.Ieee.Scale.{round-same}
 use lib.Ieee.Back.{round-whole}
+use Rattle.laws.specs.Pick.{pick}
 use Rattle.laws.proofs.Tests.{T-first, T-second}
 use Rattle.clock_numbers.specs.Arithmetic.{_⊕_, _⊗_, _⊘_, wholeNumber, distance}
 
@@ -77,9 +78,16 @@ module _ (n : ℕ) (exact : Exact n) where
       (units-up-to (kept 53 units-of c) (drop 53 units-of c) (subst (λ (x : Float). T (le x (wholeNumber n))) same t))
 
 -- ---- the operations
+-- a choice by `cond`, as the library makes it in a sum
 either-up-to : (n : ℕ) (w : Bool) {x y : Float} → (T w → UpTo n x) → (T (not w) → UpTo n y) → UpTo n (cond w x y)
 either-up-to n true f g = f tt
 either-up-to n false f g = g tt
+
+-- a choice by `pick`, as in the distance
+picked-up-to : (n : ℕ) (w : Bool) {x y : Float} → (T w → UpTo n x) → (T (not w) → UpTo n y) → UpTo n (pick w x y)
+unfolding pick
+picked-up-to n true f g = f tt
+picked-up-to n false f g = g tt
 
 pub whole-up-to : (n : ℕ) → Exact n → (r : ℕ) → r ≤ n → UpTo n (wholeNumber r)
 unfolding wholeNumber ofInt
@@ -182,7 +190,7 @@ distance-up-to n exact (up-to {s} {m} {e} f h) (up-to {s = t} {m = l} {e = d} g 
     let b = l * up d * down e in
     let p = zero-over s m (up e) (down d) f in
     let q = zero-over t l (up d) (down e) g in
-    either-up-to n (below t b s a)
+    picked-up-to n (below t b s a)
     (λ w. difference-up-to n exact s t a b (down e * down d) (mul-pos (down-pos e) (down-pos d)) p q
     (below-le t s b a q p w) (over n (m * up e) (down e) (down d) h))
     (λ w. difference-up-to n exact t s b a (down d * down e) (mul-pos (down-pos d) (down-pos e)) q p

@@ -1,9 +1,10 @@
 -- The numbers of binary64 that the ping clock works with, and the operations on them, each rounded once.
 use Prim.Native.Nat.{ℕ}
 use mathlib.Core.Path.{_≡_}
-use mathlib.Core.Bool.{Bool, true, _&&_, cond}
+use mathlib.Core.Bool.{Bool, true, _&&_}
 use lib.IntN.{pos}
 use lib.Ieee.{Float, binary64, add, sub, mul, div, lt, le, ofInt}
+use Rattle.laws.specs.Pick.{pick}
 
 -- sum, difference, product and quotient, rounded once: to the nearest number, at a tie to the even one
 infixl 6 _⊕_ _⊖_
@@ -41,14 +42,14 @@ abbrev pub within : ℕ → ℕ → Float → Bool
 within low high x = le (wholeNumber low) x && le x (wholeNumber high)
 
 abbrev pub larger : Float → Float → Float
-larger x y = cond (lt x y) y x
+larger x y = pick (lt x y) y x
 
 abbrev pub smaller : Float → Float → Float
-smaller x y = cond (lt y x) y x
+smaller x y = pick (lt y x) y x
 
 -- the smaller subtracted from the larger; x from y where they are equal, so that the distance of -0 and a sample of 0 is 0
 abbrev pub distance : Float → Float → Float
-distance x y = cond (lt y x) (x ⊖ y) (y ⊖ x)
+distance x y = pick (lt y x) (x ⊖ y) (y ⊖ x)
 
 -- x held between floor and ceiling
 abbrev pub held : Float → Float → Float → Float

@@ -33,7 +33,7 @@ use Rattle.history.specs.Claims.{dataNumber}
 
 -- the first byte of "Jmux" names no type
 magic-no-type : (b : ℕ) → fits (bits O I O O I O I O) 128 b ≡ true → kindOf b ≡ Unknown
-unfolding kindOf
+unfolding kindOf pick
 magic-no-type b e = rw (bit-128, bit-64, bit-32, bit-16, bit-8)
   where
     from-64 : fits (I ∷ O ∷ O ∷ I ∷ O ∷ I ∷ O ∷ []) 64 b ≡ true

@@ -2,7 +2,7 @@
 use mathlib.Core.Path.{_≡_}
 use Prim.Native.Nat.{ℕ, zero, suc, _+_, _/_, _≤_}
 use Prim.Native.String.{String}
-use mathlib.Core.Bool.{Bool, cond}
+use mathlib.Core.Bool.{Bool}
 use mathlib.Core.List.{List, [], _++_}
 use lib.Dec.{ltb}
 use lib.ListN.{take}
@@ -26,7 +26,7 @@ itemText name value = codes name ++ decimal value
 
 -- a flag's name, where it is set
 abbrev pub flagText : String → Bool → List ℕ
-flagText name set = cond set (codes name) []
+flagText name set = pick set (codes name) []
 
 -- what stands behind a line's end is no text and the program's choice; a length above 128 is a full line's
 abbrev pub lineText : Line → List ℕ

@@ -2,10 +2,10 @@
 use crate::Line;
 ghost use mathlib.Core.Path.{_≡_};
 ghost use Prim.Native.Nat.{_+_, _≤_, min};
-ghost use mathlib.Core.Bool.{cond};
 ghost use mathlib.Core.List.{[], _++_};
 ghost use lib.ListN.{length, take};
 ghost use lib.Seq.{paste};
+ghost use Rattle.laws.specs.Pick.{pick};
 ghost use Rattle.text_line.specs.Line.{decimal, lineText, added, LineIs};
 
 // The first n bytes, or all where there are fewer.
@@ -77,7 +77,7 @@ impl Line {
 
     // The line with the name of a flag behind its end, where the flag is set.
     pub fn flag(self, name: &[u8], set: bool) -> Line
-        ensures { λ r. ⌜ LineIs r (added (lineText self) (cond set (now (name .entry)) [])) ⌝ }
+        ensures { λ r. ⌜ LineIs r (added (lineText self) (pick set (now (name .entry)) [])) ⌝ }
     {
         if set {
             return self.text(name);

@@ -53,6 +53,7 @@ session-bound b = below-seven _ _ _ _ _ _ _ (bit b 64) (bit b 32) (bit b 16) (bi
 -- ---- messages
 
 second-bound : (k : Kind) (h : List ℕ) → secondByte (message k h) < 128
+unfolding pick
 second-bound kind.NoOperation h = omega arith
 second-bound kind.Shutdown h = omega arith
 second-bound kind.Ping h = omega arith
@@ -65,6 +66,7 @@ second-bound kind.Acknowledgment h = session-bound (getD h 1 0)
 second-bound kind.Data h = session-bound (getD h 1 0)
 
 number-bound : (k : Kind) (h : List ℕ) → numberOf (message k h) < 65_536
+unfolding pick
 number-bound kind.NoOperation h = wide-bound (getD h 2 0) (getD h 3 0)
 number-bound kind.Shutdown h = wide-bound (getD h 2 0) (getD h 3 0)
 number-bound kind.Ping h = wide-bound (getD h 2 0) (getD h 3 0)

@@ -22,6 +22,7 @@ use Rattle.wire.proofs.Reading.{header-short, header-long, number-ok}
 
 -- reading what was written gives the same number, whatever follows
 pub header-read-written : (n : ℕ) (rest : List ℕ) → n < 65_536 → readConnectionHeader (connectionHeader n ++ rest) ≡ ok n
+unfolding pick
 header-read-written n rest h =
     let hi : n / 256 < 256 = omega arith in
     let lo : n % 256 < 256 = omega arith in

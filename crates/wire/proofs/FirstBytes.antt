@@ -6,6 +6,7 @@ use Prim.Native.Nat.{ℕ, _<_, _/_, _%_}
 use lib.Dec.{T, eqb, eqb→eq}
 use borrow.Author.Tests.{eq-eqb, ne-eqb}
 use lib.ListN.{getD}
+use Rattle.laws.specs.Pick.{pick}
 use Rattle.wire.specs.declared.Kind.{Kind}
 use Rattle.wire.specs.declared.Kind.the-variants.{NoOperation, Shutdown, Ping, PingAck, Error, IncrementRation, Abort, Close, Acknowledgment, Data}
 use Rattle.wire.specs.declared.Named.{Named}
@@ -66,7 +67,7 @@ named f n t a h e =
     (subst (λ (b : Bool). T (not b || eqb (codeOf (kindOf a)) (codeOf n))) e (below (names f n) 256 t a h))
 
 pub odd-unknown : (a : ℕ) → a < 256 → a % 2 ≡ 1 → kindOf a ≡ Unknown
-unfolding kindOf
+unfolding kindOf pick
 odd-unknown a h e = named (λ a. eqb (a % 2) 1) Unknown tt a h (eq-eqb _ _ e)
 
 -- an even byte whose high bits are those of a type with items in the byte
@@ -77,15 +78,15 @@ module _ (a : ℕ) (h : a < 256) (even : a % 2 ≡ 1 → ⊥) where
       (and-both (ap not (ne-eqb _ _ even)) (eq-eqb _ _ e))
 
   pub increment-ranged : a / 16 ≡ 1 → kindOf a ≡ Known IncrementRation
-  unfolding kindOf
+  unfolding kindOf pick
   increment-ranged e = ranged 16 1 IncrementRation tt e
 
   pub abort-ranged : a / 4 ≡ 8 → kindOf a ≡ Known Abort
-  unfolding kindOf
+  unfolding kindOf pick
   abort-ranged e = ranged 4 8 Abort tt e
 
   pub data-ranged : a / 32 ≡ 4 → kindOf a ≡ Known Data
-  unfolding kindOf
+  unfolding kindOf pick
   data-ranged e = ranged 32 4 Data tt e
 
 -- a byte that none of the ranges has
@@ -110,7 +111,7 @@ abbrev pub single : List ℕ
 single = 0x00 ∷ 0x02 ∷ 0x04 ∷ 0x06 ∷ 0x08 ∷ 0x30 ∷ 0x40 ∷ []
 
 pub rest-unknown : (a : ℕ) → a < 256 → (a / 16 ≡ 1 → ⊥) × (a / 4 ≡ 8 → ⊥) × (a / 32 ≡ 4 → ⊥) → Absent single a → kindOf a ≡ Unknown
-unfolding kindOf
+unfolding kindOf pick
 rest-unknown a h r n =
     named (λ a. unranged a && absent single a) Unknown tt a h
     (and-both

@@ -50,12 +50,12 @@ shift-test : ℕ → Bool
 shift-test t = eqb (code kind.IncrementRation) (codeOf (kindOf (0x10 + t * 2))) && eqb ((0x10 + t * 2) / 2 % 8) t
 
 shift-known : (t : ℕ) → T (eqb (code kind.IncrementRation) (codeOf (kindOf (0x10 + t % 8 * 2))) && eqb ((0x10 + t % 8 * 2) / 2 % 8) (t % 8))
-unfolding shift-test kindOf
+unfolding shift-test kindOf pick
 shift-known t = below shift-test 8 tt (t % 8) (mod-lt t (omega arith))
 
 flags-back : (o c e k : Bool) (i n : ℕ)
     → (kindOf (firstByte (Data o c e k i n)) ≡ Known kind.Data) × (decoded kind.Data (firstByte (Data o c e k i n)) i n ≡ Data o c e k (i % 128) n)
-unfolding kindOf
+unfolding kindOf pick
 flags-back true true true true i n = (refl, refl)
 flags-back true true true false i n = (refl, refl)
 flags-back true true false true i n = (refl, refl)
@@ -75,12 +75,12 @@ flags-back false false false false i n = (refl, refl)
 
 partial-back : (p : Bool) (i n : ℕ)
     → (kindOf (firstByte (Abort p i n)) ≡ Known kind.Abort) × (decoded kind.Abort (firstByte (Abort p i n)) i n ≡ Abort p (i % 128) n)
-unfolding kindOf
+unfolding kindOf pick
 partial-back true i n = (refl, refl)
 partial-back false i n = (refl, refl)
 
 first-names : (m : Message) → kindOf (firstByte m) ≡ Known (kindOfMessage m)
-unfolding kindOf
+unfolding kindOf pick
 first-names (NoOperation n) = refl
 first-names (Shutdown n) = refl
 first-names (Ping n) = refl
@@ -156,7 +156,7 @@ first-alone kind.Acknowledgment a b n = refl
 first-alone kind.Data a b n = refl
 
 first-decoded : (a : ℕ) → a < 256 → (k : Kind) (b n : ℕ) → kindOf a ≡ Known k → firstByte (decoded k a b n) ≡ a
-unfolding kindOf
+unfolding kindOf pick
 first-decoded a h k b n e =
     first-alone k a b n
     ∙ eqb→eq (firstByte (decoded k a 0 0)) a

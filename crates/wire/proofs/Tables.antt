@@ -1,6 +1,6 @@
 -- What the layout tables say of four header bytes, in sums and tests of each byte, from tests computed over the 256 bytes.
 use mathlib.Core.Path.{_≡_, refl, ap, sym, _∙_, subst}
-use mathlib.Core.Bool.{cond, Bool, true, false, _&&_, Bool·beq, and-true, and-assoc}
+use mathlib.Core.Bool.{Bool, true, false, _&&_, Bool·beq, and-true, and-assoc}
 use mathlib.Core.List.{List, [], _∷_, _++_}
 use Prim.Native.Nat.{ℕ, _+_, _*_, _/_, _%_, _<_}
 use native.Mathlib.Omega.{arith}
@@ -17,6 +17,7 @@ use Rattle.wire.specs.FirstByte.{kindOf}
 use Rattle.wire.specs.Layout.{LayoutRow, layout, fixed, hasItem, item, message, body, length}
 use Rattle.wire.specs.Message.{bodyLength}
 use Rattle.wire.specs.Connection.{connectionLayout}
+use Rattle.laws.specs.Pick.{pick}
 use Rattle.laws.proofs.Below.{every, below, below-number, below-test}
 use Rattle.laws.proofs.Tests.{T-true, and-same}
 
@@ -89,7 +90,7 @@ firstFixed Unknown a = true
 
 -- a byte that names a type is as that type's layout fixes its first byte
 first-fixed : (a : ℕ) → a < 256 → (k : Kind) → kindOf a ≡ Known k → fixed (take (firstRows k) (layout k)) (a ∷ []) ≡ true
-unfolding kindOf
+unfolding kindOf pick
 first-fixed a h k e =
     T-true _ (subst (λ (n : Named). T (firstFixed n a)) e (below (λ a. firstFixed (kindOf a) a) 256 tt a h))
 
@@ -169,6 +170,7 @@ data-same p q r s t u = cc
 
 module _ (a b c d : ℕ) (ha : a < 256) (hb : b < 256) (hc : c < 256) (hd : d < 256) where
   items : (k : Kind) → message k (a ∷ b ∷ c ∷ d ∷ []) ≡ decoded k a b (c * 256 + d)
+  unfolding pick
   items kind.NoOperation = ap NoOperation (two-bytes c d hc hd)
   items kind.Shutdown = ap Shutdown (two-bytes c d hc hd)
   items kind.Ping = ap Ping (two-bytes c d hc hd)
@@ -188,7 +190,8 @@ module _ (a b c d : ℕ) (ha : a < 256) (hb : b < 256) (hc : c < 256) (hd : d < 
       same p q = rw (p, q)
 
 -- bytes follow the header exactly where the layout has a row for them, and as many as the length says
-pub body-follows : (k : Kind) (h : List ℕ) → bodyLength (message k h) ≡ cond (hasItem body (layout k)) (item k length h) 0
+pub body-follows : (k : Kind) (h : List ℕ) → bodyLength (message k h) ≡ pick (hasItem body (layout k)) (item k length h) 0
+unfolding pick
 body-follows kind.NoOperation h = refl
 body-follows kind.Shutdown h = refl
 body-follows kind.Ping h = refl

@@ -1,7 +1,7 @@
 -- The published table of first bytes: each row is a bit pattern, and the message type that it names.
 use Prim.Native.Nat.{ℕ}
 use mathlib.Core.List.{List, [], _∷_}
-use mathlib.Core.Bool.{cond}
+use Rattle.laws.specs.Pick.{pick}
 use Rattle.wire.specs.Pattern.{Bit, O, I, x, bits, fits}
 use Rattle.wire.specs.declared.Kind.{Kind}
 use Rattle.wire.specs.declared.Kind.the-variants.{NoOperation, Shutdown, Ping, PingAck, Error, IncrementRation, Abort, Close, Acknowledgment, Data}
@@ -32,7 +32,7 @@ typeTable =
 -- the type of the row that the byte fits
 abbrev pub lookup : List TypeRow → ℕ → Named
 lookup [] byte = Unknown
-lookup (r ∷ rs) byte = cond (fits (r .pattern) 128 byte) (Known (r .kind)) (lookup rs byte)
+lookup (r ∷ rs) byte = pick (fits (r .pattern) 128 byte) (Known (r .kind)) (lookup rs byte)
 
 unfoldable pub kindOf : ℕ → Named
 kindOf byte = lookup typeTable byte

@@ -1,9 +1,10 @@
 -- The published layout tables: which bits of a header are reserved, and which hold each item.
 use Prim.Native.Nat.{ℕ}
 use mathlib.Core.List.{List, [], _∷_}
-use mathlib.Core.Bool.{Bool, true, false, _&&_, _||_, cond}
+use mathlib.Core.Bool.{Bool, true, false, _&&_, _||_}
 use lib.ListN.{getD}
 use lib.Dec.{eqb}
+use Rattle.laws.specs.Pick.{pick}
 use Rattle.wire.specs.Pattern.{Bit, O, I, x, -, bits, fits, withBits}
 use Rattle.wire.specs.declared.Kind.{Kind}
 use Rattle.wire.specs.declared.Kind.the-variants as kind
@@ -95,7 +96,7 @@ fixed (r ∷ rs) header = fits (r .pattern) 128 (getD header (r .offset) 0) && f
 abbrev pub digits : Item → List LayoutRow → List ℕ → ℕ → ℕ
 digits i [] header n = n
 digits i (r ∷ rs) header n =
-    digits i rs header (cond (eqb (number i) (number (r .item))) (withBits (r .pattern) 128 (getD header (r .offset) 0) n) n)
+    digits i rs header (pick (eqb (number i) (number (r .item))) (withBits (r .pattern) 128 (getD header (r .offset) 0) n) n)
 
 -- whether a layout has a row for the item
 abbrev pub hasItem : Item → List LayoutRow → Bool

@@ -1,5 +1,6 @@
 -- `parse_connection_header` meets its contract, by the laws of the eight bytes.
 use lib.ListN.{getD}
+use Rattle.laws.specs.Pick.{pick}
 use Rattle.laws.proofs.Pick.{via}
 use Rattle.wire.proofs.Reading.{number-ok, number-bad}
 use borrow.Author.Needs.{needs}
@@ -7,6 +8,7 @@ use Rattle.wire_connection_header.proofs.reading.parse_connection_heade
 use Rattle.wire_connection_header.proofs.reading.parse_connection_header.Tie as tie
 
 returns : tie.Need-returns
+unfolding pick
 returns c =
     let b = c .before .before .before .args .t1 in
     number-ok b (via (c .before .is-header .ensures (getD b 5 0) (getD b 6 0)) (c .if1 .taken)) (c .before .before .number .ensures)
