@@ -6,7 +6,7 @@ use Rattle.laws.specs.Pick.{pick}
 use Rattle.laws.specs.Result.{ok, refused}
 use Rattle.laws.proofs.Pick.{yes, no}
 use Rattle.laws.proofs.Tests.{and-both}
-use Rattle.clock_numbers.specs.Arithmetic.{_⊕_, _⊗_, _⊘_, wholeNumber, held}
+use Rattle.clock_numbers.specs.Arithmetic.{_⊕_, _⊗_, _⊘_, wholeNumber, held, Between}
 use Rattle.clock_sample.specs.declared.Clock.{Clock}
 use Rattle.clock_sample.specs.Clock.{newClock, first, updated, goodClock, sampleRule}
 use Rattle.clock_limit.specs.declared.Setting.the-variants.{Fixed, Measured}
@@ -34,6 +34,10 @@ pub margin-above : (clock : Clock) → clock .sampled ≡ true → lt (wholeNumb
     → measured clock ≡ clock .smoothed ⊕ wholeNumber 4 ⊗ clock .deviation
 unfolding measured
 margin-above clock e m = yes _ _ _ e ∙ ap (λ (x : Float). clock .smoothed ⊕ x) (yes _ _ _ m)
+
+-- between two numbers: not below the one, not above the other
+pub between-says : (floor ceiling x : Float) → Between floor ceiling x → (le floor x ≡ true) × (le x ceiling ≡ true)
+between-says floor ceiling x b = b
 
 -- ---- in numbers, by computation
 
