@@ -85,6 +85,22 @@ pub grant-of-0 : Adds client sent (refuses (grant 5 0 (zeros 4)) 12)
 unfolding played
 grant-of-0 = refl
 
+pub grant-of-65535 : Adds client sent (taken (grant 5 65_535 (zeros 4)) done (0x10 ∷ 0x05 ∷ 0xFF ∷ 0xFF ∷ []))
+unfolding played
+grant-of-65535 = refl
+
+pub grant-of-65536 : Adds client sent (refuses (grant 5 65_536 (zeros 4)) 12)
+unfolding played
+grant-of-65536 = refl
+
+pub number-127 : Adds client sent (taken (open-session 127) done [])
+unfolding played
+number-127 = refl
+
+pub number-128 : Adds client sent (refuses (open-session 128) 3)
+unfolding played
+number-128 = refl
+
 -- ---- what a turn sends
 
 -- 255 bytes of 256 are spent, one is left
