@@ -1,4 +1,6 @@
-"""Scripts with a line that is none, and some that end oddly and are right, each with the output that every player must give."""
+"""Scripts with a line that is none, and some that end oddly and are right, each with the output that every player must give and what
+replay says of it on standard error."""
+import re
 
 # Four lines, so that a bad line behind them is the fifth.
 BEGUN = b"# A client that has started.\n\nclient 4\nstart\n"
@@ -48,35 +50,74 @@ FIRST_LINES = [
 ]
 
 
+# The form of a line by its first word, as docs/SCRIPTS.md has it.
+ID, ROOM = b"ID at most 255", b"ROOM at most 66000"
+FORMS = {
+    b"start": b"start [ROOM], " + ROOM,
+    b"open": b"open ID, " + ID,
+    b"put": b"put ID BYTES, " + ID + b", BYTES lower-case hex of at most 1024 bytes or -",
+    b"finish": b"finish ID, " + ID,
+    b"turn": b"turn [ROOM], " + ROOM,
+    b"grant": b"grant ID AMOUNT [ROOM], " + ID + b", AMOUNT of at most 9 digits, " + ROOM,
+    b"abort": b"abort ID whole|partial [ROOM], " + ID + b", " + ROOM,
+    b"close": b"close ID [ROOM], " + ID + b", " + ROOM,
+    b"ping": b"ping COOKIE [ROOM], COOKIE at most 65535, " + ROOM,
+    b"shutdown": b"shutdown [ROOM], " + ROOM,
+    b"lost": b"lost alone",
+    b"receive": b"receive BYTES [ROOM], BYTES lower-case hex of at most 66000 bytes or -, " + ROOM,
+    b"state": b"state alone",
+    b"queue": b"queue ID, " + ID,
+}
+FIRST_FORM = b"client|server HEADER [queue LENGTH], HEADER at most 65535, LENGTH at most 70000"
+
+
 def wrong(line):
     return b"script error at line %d\n" % line
+
+
+def why(line, first):
+    """Why a line is a script error."""
+    if re.search(rb"[^ -~]", line):
+        return b"a byte that no word has"
+    if b"  " in line:
+        return b"two spaces"
+    if line.startswith(b" ") or line.endswith(b" "):
+        return b"a space at the start or at the end"
+    if first:
+        return b"expected " + FIRST_FORM
+    form = FORMS.get(line.split(b" ")[0])
+    return b"expected " + form if form else b"no call has this name"
+
+
+def reason(number, line, first=False):
+    return b"line %d: %s\n" % (number, why(line, first))
 
 
 def bad_lines():
     """One bad line each, behind good ones and before others, and as the last line with no end."""
     for line in LONG_NUMBERS + BAD_HEX + MISSING_WORDS + OTHER_WORDS + ODD_BYTES + LONG_LINES:
-        yield BEGUN + line + b"\nstate\nopen\n", STARTED + wrong(5)
-        yield BEGUN + line, STARTED + wrong(5)
+        yield BEGUN + line + b"\nstate\nopen\n", STARTED + wrong(5), reason(5, line)
+        yield BEGUN + line, STARTED + wrong(5), reason(5, line)
     for line in FIRST_LINES:
-        yield b"#\n" + line + b"\nclient 4\nstate\n", wrong(2)
-        yield line, wrong(1)
+        yield b"#\n" + line + b"\nclient 4\nstate\n", wrong(2), reason(2, line, True)
+        yield line, wrong(1), reason(1, line, True)
 
 
 def good_ends():
     """What is skipped, and where an input may end: none of these is a fault."""
     for nothing in (b"", b"\n", b"#", b"\n\n# no line\n", b"#\0\xff\r\n", b"client 4", b"client 4\n"):
-        yield nothing, b""
-    yield b"client 4\nstate", FRESH
-    yield b"client 4\n\n\nstate\n\n#", FRESH
-    yield b"client 4\n" + b"\n" * MEGABYTE + b"open", wrong(MEGABYTE + 2)
+        yield nothing, b"", b""
+    yield b"client 4\nstate", FRESH, b""
+    yield b"client 4\n\n\nstate\n\n#", FRESH, b""
+    yield b"client 4\n" + b"\n" * MEGABYTE + b"open", wrong(MEGABYTE + 2), reason(MEGABYTE + 2, b"open")
     for length in (BUFFER - 11, BUFFER - 10, BUFFER - 9, BUFFER - 1, BUFFER, BUFFER + 1, MEGABYTE):
         comment = b"#" * length
-        yield b"client 4\n" + comment + b"\nstate\nopen\n", FRESH + wrong(4)
-        yield comment + b"\nclient 4\nstate\n" + comment, FRESH
-        yield b"client 4\nstate\n" + comment + b"\n" + comment + b"\nlost 1", FRESH + wrong(5)
+        yield b"client 4\n" + comment + b"\nstate\nopen\n", FRESH + wrong(4), reason(4, b"open")
+        yield comment + b"\nclient 4\nstate\n" + comment, FRESH, b""
+        yield b"client 4\nstate\n" + comment + b"\n" + comment + b"\nlost 1", FRESH + wrong(5), reason(5, b"lost 1")
     longest = b"receive " + b"00" * 66000 + b" 66000"
     refused = b"receive refused 22 wrote 08000000\nreceive refused 2\n"
-    yield BEGUN + longest + b"\n" + longest + b"\nopen", STARTED + refused + wrong(7)
+    yield BEGUN + longest + b"\n" + longest + b"\nopen", STARTED + refused + wrong(7), reason(7, b"open")
 
 
 def cases():

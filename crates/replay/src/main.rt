@@ -1,11 +1,14 @@
 // Plays a script of calls on one connection, and writes what each call answers.
 //
-// The script stands on standard input, and the lines go to standard output. It is run on two sessions of a client, and is
-// held to lines that are made by hand from the rules; scripts/ has more.
+// The script is on standard input, and the lines go to standard output; the reason of a script error goes to standard error. It is
+// run on two sessions of a client, and is held to lines that are made by hand from the rules; scripts/ has more.
 mod input;
 mod play;
+mod reason;
 mod show;
 
+use libc::STDERR_FILENO;
+use libc::STDOUT_FILENO;
 use play::Play;
 
 // One line of the script, or one read of more of it.
@@ -24,8 +27,27 @@ fn run_all(input: &mut [u8], queue: &mut [u8], room: &mut [u8]) {
     }
 }
 
+// The usage line: on standard output where `--help` asks for it, on standard error for any other argument.
+fn usage() {
+    let mut word = [0u8; 7];
+    let n = os::arg(1, &mut word);
+    let out = if check::same(&word[..n], b"--help") {
+        STDOUT_FILENO
+    } else {
+        STDERR_FILENO
+    };
+    io::write_all(
+        out,
+        b"usage: replay < SCRIPT (docs/SCRIPTS.md describes scripts)\n",
+    );
+}
+
 // The longest right line, a receive of 66,000 bytes with its room, has 132,014 bytes.
 fn main() {
+    if 1 < os::arg_count() {
+        usage();
+        return;
+    }
     let mut input = [0u8; 262144];
     let mut queue = [0xddu8; 70000];
     let mut room = [0u8; 66000];

@@ -1,5 +1,6 @@
 // One line of a script, played on a connection.
 use crate::input::Place;
+use crate::reason;
 use crate::show;
 use engine::Called;
 use engine::Connection;
@@ -55,9 +56,10 @@ impl Play {
     }
 
     // A line that the format does not have ends the run.
-    fn stopped_by_error(self) -> Play {
+    fn stopped_by_error(self, line: &[u8]) -> Play {
         let place = self.place;
         show::script_error(place.line);
+        reason::tell(line, place.line, !self.made);
         self.at(place.stopped())
     }
 }
@@ -66,7 +68,7 @@ fn begin(play: Play, line: &[u8]) -> Play {
     let beginning = script_lines::begin(line);
     match beginning {
         Beginning::Made(role, header, queue) => play.begun(Setup { role, header }, queue),
-        Beginning::Wrong => play.stopped_by_error(),
+        Beginning::Wrong => play.stopped_by_error(line),
     }
 }
 
@@ -132,7 +134,7 @@ fn with_room(
             return in_room(play, asked, line, &mut queue[..k], &mut room[..n]);
         }
     }
-    play.stopped_by_error()
+    play.stopped_by_error(line)
 }
 
 // What a line behind the first asks: a call, or a print of what stands, the connection and its sessions or a slot of the queue.
@@ -142,7 +144,7 @@ fn made_line(play: Play, line: &[u8], queue: &mut [u8], room: &mut [u8]) -> Play
         Command::Call(asked, n) => return with_room(play, asked, line, queue, room, n),
         Command::State => show::state(play.connection),
         Command::Queue(n) => show::slot(first(queue, play.queue), n),
-        Command::Wrong => return play.stopped_by_error(),
+        Command::Wrong => return play.stopped_by_error(line),
     }
     play
 }
