@@ -43,13 +43,17 @@ fn usage() {
 }
 
 // The longest right line, a receive of 66,000 bytes with its room, has 132,014 bytes.
-fn main() {
-    if 1 < os::arg_count() {
-        usage();
-        return;
-    }
+fn play_input() {
     let mut input = [0u8; 262144];
     let mut queue = [0xddu8; 70000];
     let mut room = [0u8; 66000];
     run_all(&mut input, &mut queue, &mut room);
+}
+
+fn main() {
+    if 1 < os::arg_count() {
+        usage();
+    } else {
+        play_input();
+    }
 }

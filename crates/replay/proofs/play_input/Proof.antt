@@ -1,10 +1,10 @@
--- `main` is safe: each buffer that is lent has the length that it was made with.
+-- `play_input` is safe: each buffer that is lent has the length that it was made with.
 use Prim.Native.Nat.{ℕ}
 use lib.ListN.{length-replicate}
 use mathlib.Core.Path.{sym}
 use borrow.Author.Needs.{needs}
-use Rattle.replay.proofs.main.Statement.{statement}
-use Rattle.replay.proofs.main.Tie as tie
+use Rattle.replay.proofs.play_input.Statement.{statement}
+use Rattle.replay.proofs.play_input.Tie as tie
 
 slice-aggregate-run-all : tie.Need-slice-aggregate-run-all
 slice-aggregate-run-all c = sym (length-replicate {A = ℕ} 262144 0)
@@ -15,8 +15,8 @@ slice-aggregate-run-all-2 c = sym (length-replicate {A = ℕ} 70000 221)
 slice-aggregate-run-all-3 : tie.Need-slice-aggregate-run-all-3
 slice-aggregate-run-all-3 c = sym (length-replicate {A = ℕ} 66000 0)
 
-pub main-spec : {M : Type 1} → statement M
-main-spec =
+pub play-input-spec : {M : Type 1} → statement M
+play-input-spec =
     tie.close
     (tie.spec
     slice-aggregate-run-all slice-aggregate-run-all-2 slice-aggregate-run-all-3 (λ c κs. search needs)
