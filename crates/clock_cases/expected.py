@@ -1,5 +1,5 @@
 #!/usr/bin/env python3
-"""Prints what clock_cases must write, from the paper's formulas on python's floats, which are IEEE doubles:
+"""Prints what clock_cases must write, from the formulas of docs/PROTOCOL.md, "The ping clock", on python's floats, which are IEEE doubles:
 python3 expected.py > stdout"""
 import math
 import struct

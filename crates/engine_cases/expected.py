@@ -1,5 +1,5 @@
 #!/usr/bin/env python3
-"""Prints what engine_cases must write: each answer is made by hand from the words of paper 01 that stand beside it.
+"""Prints what engine_cases must write: each answer is made by hand from the rule of docs/PROTOCOL.md that is beside it in short.
 python3 expected.py > stdout"""
 
 CALLS = "start open put finish turn grant abort close ping shutdown lost receive".split()

@@ -1,4 +1,4 @@
-//! One end of a connection: the calls of paper 01, their checks in order, their effects.
+//! One end of a connection: the calls of docs/PROTOCOL.md, their checks in order, their effects.
 
 mod receive;
 

@@ -37,7 +37,7 @@ impl Pipe {
     }
 }
 
-/// The far end; it may send all that 002 allows, also what our engine never sends by itself.
+/// The far end; it may send all that the published protocol allows, also what our engine never sends by itself.
 pub struct Far {
     pub player: Player,
     pub to_near: Pipe,

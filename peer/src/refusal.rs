@@ -1,4 +1,4 @@
-//! The refusal numbers of paper 01, each under a plain name.
+//! The numbers of refusals and violations of docs/PROTOCOL.md, each under a plain name.
 
 pub const NOT_UP: u8 = 1;
 pub const OVER: u8 = 2;
@@ -26,7 +26,7 @@ pub const PINGACK: u8 = 28;
 /// From this number up a refusal is a protocol violation and makes the connection over.
 pub const FIRST_VIOLATION: u8 = 20;
 
-/// Every refusal number of paper 01, with its meaning in a few words.
+/// Every number of a refusal or violation of docs/PROTOCOL.md, with its meaning in a few words.
 pub const ALL: [(u8, &str); 22] = [
     (NOT_UP, "headers not yet exchanged"),
     (OVER, "connection over"),

@@ -116,7 +116,7 @@ impl Message {
         }
     }
 
-    /// Gives the message of this first byte, or nothing if 002's table has no such byte.
+    /// Gives the message of this first byte, or nothing if the published table of first bytes has no such byte.
     fn from_parts(first: u8, id: u8, number: u16) -> Option<Message> {
         Some(match first {
             0x00 => Message::NoOperation { length: number },

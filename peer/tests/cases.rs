@@ -1,4 +1,4 @@
-//! Paper 01's numbered cases and rules, played as scripts.
+//! The numbered cases and the rules of docs/PROTOCOL.md, played as scripts.
 
 use peer::play::play_bytes;
 

@@ -1,5 +1,5 @@
--- Tables of computed rows: what a row says, the starred cases of the paper, who may send what, the sizes that calls ask for, and states
--- that are not well formed.
+-- Tables of computed rows: what a row says, cases 1 to 5 and 7 of docs/PROTOCOL.md, who may send what, the sizes that calls ask for, and
+-- states that are not well formed.
 pub mod Row
 pub mod Table
 pub mod Senders

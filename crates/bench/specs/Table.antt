@@ -1,4 +1,4 @@
--- The starred cases, in the order of the paper.
+-- Cases 1 to 5 and 7 of docs/PROTOCOL.md, in order.
 use mathlib.Core.Bool.{true, false}
 use mathlib.Core.List.{List, [], _∷_, _++_}
 use Prim.Native.Nat.{ℕ, _/_, _%_}

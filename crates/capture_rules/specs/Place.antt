@@ -27,7 +27,7 @@ placeAfter place (violation n) = place
 unfoldable pub stepAt : Role → List ℕ → ℕ → Result Message × ℕ
 stepAt from capture place = (messageAt from capture place, placeAfter place (messageAt from capture place))
 
--- what each answer means, in the paper's numbers and values
+-- what each answer means, in the numbers and values of docs/PROTOCOL.md, "Captures"
 abbrev pub nextAs : Next → Result Message
 nextAs (next.Message m) = ok m
 nextAs (next.Refused r) = refused (refusalNumber r)

@@ -31,7 +31,7 @@ limitUnder (Measured floor ceiling) clock = held floor ceiling (measured clock)
 unfoldable pub limitRule : Clock → Setting → Result Float
 limitRule clock setting = pick (goodClock clock && goodSetting setting) (ok (limitUnder setting clock)) (refused 12)
 
--- each case of the answer in the paper's terms
+-- each case of the answer in the terms of docs/PROTOCOL.md, "The ping clock"
 abbrev pub limitResult : Limit → Result Float
 limitResult (Milliseconds limit) = ok limit
 limitResult BadValue = refused (refusalNumber refusal.BadValue)

@@ -43,7 +43,7 @@ goodSample R = leb R 60_000
 unfoldable pub sampleRule : Clock → ℕ → Result Unit × Clock
 sampleRule clock R = pick (goodClock clock && goodSample R) (ok tt, updated clock (wholeNumber R)) (refused 12, clock)
 
--- each case of the answer in the paper's terms
+-- each case of the answer in the terms of docs/PROTOCOL.md, "The ping clock"
 abbrev pub outcomeResult : SampleAnswer → Result Unit
 outcomeResult Taken = ok tt
 outcomeResult BadValue = refused (refusalNumber refusal.BadValue)

@@ -4,7 +4,7 @@
 // state by itself: ok or the number of the refusal, and whether every refusal left the state, the queue and the room as they
 // were. A line is one call with what it answers, writes and changes.
 //
-// The expected output, the file stdout, is made by hand from the paper, and none of it is copied from a run.
+// The expected output, the file stdout, is made by hand from docs/PROTOCOL.md, and none of it is copied from a run.
 mod call;
 mod codes;
 mod compare;

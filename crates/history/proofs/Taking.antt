@@ -1,4 +1,5 @@
--- takes-exactly: a message is taken exactly where 002 lets the far end send it, from the exactness of the rule of each session.
+-- takes-exactly: a message is taken exactly where the published protocol lets the far end send it, from the exactness of the rule of
+-- each session.
 use mathlib.Core.Path.{_≡_, refl, sym, ap, _∙_, subst}
 use mathlib.Core.Bool.{Bool, true, false, false≢true}
 use mathlib.Core.List.{List, _∷_, _++_}

@@ -1,4 +1,5 @@
--- What each call answers, told from the log: its checks in 01's order, each with its number; 14 is never answered in a history.
+-- What each call answers, told from the log: its checks in the order of docs/PROTOCOL.md, "Refusals", each with its number; 14 is never
+-- answered in a history.
 use Prim.Native.Nat.{ℕ}
 use mathlib.Core.Bool.{Bool, true, false, not}
 use mathlib.Core.List.{List}

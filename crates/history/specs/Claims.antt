@@ -205,7 +205,7 @@ pub record RoomBehind (s : State) (k : Call) : Type 0 where
   pub size : length (called s k .2) ≡ length (roomOf k)
   pub behind : drop (length (out s k .wrote)) (called s k .2) ≡ drop (length (out s k .wrote)) (roomOf k)
 
--- ---- each call answers the first of its checks, in 01's order, that refuses
+-- ---- each call answers the first of its checks, in the order of docs/PROTOCOL.md, "Refusals", that refuses
 
 -- `queue` is the length of the queue; what the search of a turn and the reading of a receive answer behind their checks is in claims of
 -- their own
@@ -214,7 +214,7 @@ AnswersExactly s queue log =
     (a c : List Entry) (e : Entry) → log ≡ a ++ (e ∷ c)
     → e .answer ≡ answerTold s queue (observed s (meaning (e .call) .number) a) (e .call) (e .answer)
 
--- ---- a message is taken exactly where 002 lets the far end send it, but that an Acknowledgment need not have been asked for
+-- ---- a message is taken exactly where the published protocol lets the far end send it; an Acknowledgment need not have been asked for
 
 -- no check before the message refuses a receive
 pub record Listening (s : Setup) (a : List Entry) (room : ℕ) : Type 0 where

@@ -116,8 +116,8 @@ wholeMayGo r up answer error-of = isViolation answer
 wholeMayGo r up answer (ping-of k) = up
 wholeMayGo r up answer (ping-ack-of k) = up && takesPing k answer
 
--- a session's message is of the number that the entry concerns, of a type and with flags that are ours, and one that 002 lets us
--- send now
+-- a session's message is of the number that the entry concerns, of a type and with flags that are ours, and one that the published
+-- protocol lets us send now
 abbrev pub messageMayGo : Setup → Account → Entry → Scope → Bool
 messageMayGo s a e (whole w) = wholeMayGo (s .role) (greeted (a .line .greeting)) (e .answer) w
 messageMayGo s a e (of-session i x) =

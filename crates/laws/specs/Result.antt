@@ -1,4 +1,4 @@
--- What a call answers in the paper's terms: a value, or a refusal by its number.
+-- What a call answers in the terms of docs/PROTOCOL.md: a value, or a refusal by its number.
 use Prim.Native.Nat.{ℕ}
 
 -- a refusal is one of the numbers below 20, a violation one of those from 20 up

@@ -1,5 +1,5 @@
--- A message is taken exactly where 002 lets the far end send it now, and refused with the number told else; a turn exactly where its
--- session is ready.
+-- A message is taken exactly where the published protocol lets the far end send it now, and refused with the number told else; a turn
+-- exactly where its session is ready.
 use mathlib.Core.Path.{_≡_, refl, sym, ap, _∙_}
 use mathlib.Core.Bool.{Bool, true, false, not, _&&_, true≢false, false≢true}
 use mathlib.Core.List.{List}
@@ -127,7 +127,7 @@ twice t c a b q e = (first, second)
         let z = with-c true (not-false a h) in
         ((λ k. (e ∙ ap (λ (d : Bool). d && b) z ∙ not-true b k, sym (ap (λ (d : Bool). pick {A = ℕ} d 26 25) z))), λ k. e ∙ ap (λ (d : Bool). d && b) z ∙ not-false b k)
 
--- a message is taken exactly where 002 lets the far end send it now
+-- a message is taken exactly where the published protocol lets the far end send it now
 pub receipt-exact : (r : Role) (own far : Ration) (x : Session) (s : List ℕ) (m : SessionMessage) → placed r true (x .sides) ≡ true → Possible r m
     → Exactly (mayArrive r own (look far x s) m) (wrongNumber r (endsOf (x .sides)) m) (receipt r own far x m)
 unfolding receipt

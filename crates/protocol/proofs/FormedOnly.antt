@@ -1,4 +1,5 @@
--- A state is well formed exactly where each item of the paper's list holds, in numbers and cases: from the tests of the state.
+-- A state is well formed exactly where each item of docs/PROTOCOL.md, "Well-formed state", holds, in numbers and cases: from the tests
+-- of the state.
 use mathlib.Core.Path.{_≡_, refl, sym, ap, _∙_}
 use mathlib.Core.Bool.{Bool, true, false, not, _&&_, true≢false}
 use mathlib.Core.List.{List, [], _∷_}

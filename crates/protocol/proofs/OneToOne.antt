@@ -1,5 +1,5 @@
--- No two answers of the code stand for the same answer in the paper's numbers and values, and no two results for the same result:
--- each is given back.
+-- No two answers of the code stand for the same answer in the numbers and values of docs/PROTOCOL.md, and no two results for the same
+-- result: each is given back.
 use mathlib.Core.Path.{_≡_, refl, sym, ap, _∙_}
 use Rattle.laws.specs.Result.{Result, ok, refused, violation}
 use Rattle.refusal.proofs.Distinct.{refusalOf, refusal-back, violationOf, violation-back}

@@ -58,8 +58,8 @@ Carries payload v (abort-of partial) = Unit {0}
 Carries payload v close-of = Unit {0}
 Carries payload v acknowledgment-of = Unit {0}
 
--- a message that is written: 002 lets us send it when it is written, it is one of our role, its numbers fit,
--- and `payload` has the bytes that follow, which are the first that wait
+-- a message that is written: the published protocol lets us send it when it is written, it is one of our role, its numbers fit, and
+-- `payload` has the bytes that follow, which are the first that wait
 pub record Lawful (r : Role) (own far : Ration) (x : Session) (s : List ℕ) (h : List Event) (payload : List ℕ) (m : SessionMessage) : Type 0 where
   pub now : mayWrite r far (fold (observe own far) (look far x s) h) m ≡ true
   pub ours : fromRole r m ≡ true

@@ -1,4 +1,4 @@
--- What becomes of a client's session, which 01 calls its fate; told from calls, answers and messages.
+-- What becomes of a client's session, its fate (docs/PROTOCOL.md, "Outcomes"); told from calls, answers and messages.
 use mathlib.Core.Bool.{Bool, true, false}
 use Rattle.state.specs.declared.Outcome.{Outcome}
 use Rattle.state.specs.declared.Outcome.the-variants as outcome

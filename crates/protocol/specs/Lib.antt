@@ -1,4 +1,4 @@
--- The rules of one end of a connection, in the order of the paper.
+-- The rules of one end of a connection (docs/PROTOCOL.md).
 pub mod Slot
 pub mod Plan
 pub mod Message

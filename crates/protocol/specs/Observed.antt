@@ -128,7 +128,7 @@ abbrev pub anyLapse : List Event → Bool
 anyLapse [] = false
 anyLapse (e ∷ es) = lapses e || anyLapse es
 
--- ---- where each end stands, in the words of 002
+-- ---- where each end stands, in the words of the published protocol, "Sessions"
 
 -- the session that a number last named: established with respect to an end (open), also finished, or terminated (ended)
 pub data Ends : Type 0 where
@@ -268,7 +268,7 @@ dueBy (sending unsent waiting r finish) =
 abbrev pub dueData : Seen → SessionMessage
 dueData v = dueBy (v .sends)
 
--- ---- what 002 lets an end send now
+-- ---- what the published protocol lets an end send now
 
 abbrev pub finished : Side → Bool
 finished side.Open = false
@@ -280,7 +280,7 @@ abbrev pub reusable : Side → Side → Bool
 reusable client server = not (established server) && not (unfinished client)
 
 -- a message other than an open Data, from an end to the other; `r` is the ration of what it sends, `back` that of what it receives.
--- 002 asks of an Acknowledgment also that it was required: that is not looked at
+-- The published protocol, "Acknowledgment Message", asks of an Acknowledgment also that it was required: that is not looked at
 abbrev pub permits : Side → Side → Ration → Ration → SessionMessage → Bool
 permits sender receiver r back (data-of n begins close eof ack) =
     not begins && unfinished sender && onlyIf (established receiver) (allows r n)

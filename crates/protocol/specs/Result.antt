@@ -22,7 +22,7 @@ use Rattle.protocol.specs.Call.{startRule, openRule, putRule, finishRule
 
 -- ---- answers
 
--- each case of an answer in the paper's numbers and values
+-- each case of an answer in the numbers and values of docs/PROTOCOL.md, "Refusals" and "Violations"
 abbrev pub answerAs : Answer → Result Report
 answerAs answer.Done = ok done
 answerAs (answer.Served n) = ok (served n)

@@ -14,7 +14,7 @@ use Rattle.ration.specs.declared.Grown.the-variants.{To, PastLargest}
 abbrev pub largest : ℕ
 largest = 2_147_483_647
 
--- the header number, 002's initialRation, times 256; 0 means endless, 002's infinity
+-- the header number times 256, and endless for 0: initialRation and infinity in the published protocol, "ClientConnectionHeader Message"
 unfoldable pub fromHeader : ℕ → Ration
 fromHeader number = pick (eqb number 0) Endless (Finite (number * 256))
 

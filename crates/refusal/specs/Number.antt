@@ -1,4 +1,4 @@
--- The paper's number for each refusal and each violation.
+-- The number of each refusal and each violation (docs/PROTOCOL.md, "Refusals" and "Violations").
 use Prim.Native.Nat.{ℕ}
 use Rattle.refusal.specs.declared.Refusal.{Refusal}
 use Rattle.refusal.specs.declared.Refusal.the-variants as refusal

@@ -29,7 +29,7 @@ pub enum Sides {
     Live(Side, Side),
 }
 
-// What becomes of a client's session; paper 01 calls it the fate.
+// What becomes of a client's session (docs/PROTOCOL.md, "Outcomes"); the claims call it the fate.
 pub enum Outcome {
     None,
     Running,

@@ -1,4 +1,4 @@
--- What each answer of the reader and of the writers means, in the paper's numbers and values.
+-- What each answer of the reader and of the writers means, in the numbers and values of docs/PROTOCOL.md.
 use Prim.Native.Nat.{ℕ}
 use Rattle.laws.specs.Result.{Result, ok, refused, violation}
 use Rattle.refusal.specs.Number.{refusalNumber, violationNumber}

@@ -1,4 +1,4 @@
--- What each answer of the reader means, in the paper's numbers and values.
+-- What each answer of the reader means, in the numbers and values of docs/PROTOCOL.md, "Messages" and "Violations".
 use Rattle.laws.specs.Result.{Result, ok, refused, violation}
 use Rattle.refusal.specs.Number.{refusalNumber, violationNumber}
 use Rattle.refusal.specs.declared.Refusal.the-variants as refusal

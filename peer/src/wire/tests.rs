@@ -83,7 +83,7 @@ fn increments_shift_by_two() {
     assert_eq!(effective(0, 3), 3);
 }
 
-/// Tells by 002's table of bit patterns whether a first byte is allowed.
+/// Tells by the published table of bit patterns whether a first byte is allowed.
 fn pattern_allows(first: u8) -> bool {
     let patterns = [
         "00000000", "00000010", "00000100", "00000110", "00001000", "0001xxx0", "001000x0",
