@@ -1,10 +1,11 @@
-// The loops: each goes round eight sessions that are open, with endless rations.
+// The loops: each goes round eight sessions that are open, with endless rations. Queue and room are lent, as by any caller.
 use connection::with_session;
 use connection_check::well_formed;
 use engine::Answer;
 use engine::Called;
 use engine::Connection;
 use engine::Outcome;
+use engine::QUEUE_SIZE;
 use engine::Ration;
 use engine::Role;
 use engine::Session;
@@ -105,12 +106,12 @@ fn check_round(r: Round, n: u8, waiting: u16) -> Round {
     }
 }
 
-fn turn_round(r: Round, n: u8, queue: &mut [u8; 32768], room: &mut [u8; 260]) -> Round {
+fn turn_round(r: Round, n: u8, queue: &mut [u8; QUEUE_SIZE], room: &mut [u8; 260]) -> Round {
     let c = r.connection;
     after(engine::turn(c, queue, room), r.taken, n, 16)
 }
 
-fn put_round(r: Round, n: u8, queue: &mut [u8; 32768]) -> Round {
+fn put_round(r: Round, n: u8, queue: &mut [u8; QUEUE_SIZE]) -> Round {
     let c = r.connection;
     after(engine::put(c, n, b"0123456789abcdef", queue), r.taken, n, 0)
 }
@@ -143,37 +144,33 @@ pub(crate) fn checks() -> u64 {
 }
 
 // Each turn sends the 16 bytes of the session whose turn it is, and they wait again for the next time.
-pub(crate) fn turns() -> u64 {
-    let mut queue = [0x61u8; 32768];
-    let mut room = [0u8; 260];
+pub(crate) fn turns(queue: &mut [u8; QUEUE_SIZE], room: &mut [u8; 260]) -> u64 {
     let mut r = begun(16);
     let mut i: u64 = 0;
     while i < ROUNDS {
-        r = turn_round(r, number(i), &mut queue, &mut room);
+        r = turn_round(r, number(i), queue, room);
         i += 1;
     }
     r.taken
 }
 
 // Each put of 16 bytes finds the slot empty.
-pub(crate) fn puts() -> u64 {
-    let mut queue = [0x61u8; 32768];
+pub(crate) fn puts(queue: &mut [u8; QUEUE_SIZE]) -> u64 {
     let mut r = begun(0);
     let mut i: u64 = 0;
     while i < ROUNDS {
-        r = put_round(r, number(i), &mut queue);
+        r = put_round(r, number(i), queue);
         i += 1;
     }
     r.taken
 }
 
 // Each receipt is a Data message of 16 bytes.
-pub(crate) fn receipts() -> u64 {
-    let mut room = [0u8; 260];
+pub(crate) fn receipts(room: &mut [u8; 260]) -> u64 {
     let mut r = begun(0);
     let mut i: u64 = 0;
     while i < ROUNDS {
-        r = receive_round(r, number(i), &mut room);
+        r = receive_round(r, number(i), room);
         i += 1;
     }
     r.taken
