@@ -1,145 +1,130 @@
-// One request over a line: a client whose standard input is what arrives, and whose standard output is what it sends.
+// One end of a connection: its standard input is what arrives, its standard output is what it sends.
 //
-// It opens session 5, sends "abc" and the end, and tells on standard error what it receives, until the input ends or the
-// connection is over. docs/API.md explains it.
+// A client makes one request: it opens session 5, sends "abc" and eof, and ends when it knows the outcome. A server answers each
+// request with "ok" and closes the session. Both tell on standard error what they receive. docs/API.md explains the loop.
+mod calls;
 mod input;
+mod tell;
 
+use calls::ROOM_SIZE;
+use calls::send;
 use engine::Answer;
-use engine::Called;
 use engine::Connection;
+use engine::Outcome;
 use engine::QUEUE_SIZE;
+use engine::Refusal;
 use engine::Role;
 use engine::Setup;
 use input::INPUT_SIZE;
-use libc::STDERR_FILENO;
-use libc::STDOUT_FILENO;
-use text_line::Line;
 use text_line::first;
 
-const NUMBER: u8 = 5;
-
-// The room that turn asks for; no other call asks for more.
-const ROOM_SIZE: usize = 260;
-
 // What is kept between calls beside the buffers: the connection, and how many bytes of input no call has used yet.
-struct Client {
+struct End {
     connection: Connection,
     held: usize,
 }
 
-// Sends what a call wrote, the first bytes of its room.
-fn send(called: Called, room: &[u8; ROOM_SIZE]) {
-    io::write_all(STDOUT_FILENO, first(room, called.wrote));
-}
-
-fn tell(line: Line) {
-    let bytes = line.bytes;
-    io::write_all(STDERR_FILENO, first(&bytes, line.length));
-    io::write_all(STDERR_FILENO, b"\n");
-}
-
-// Tells the payload of a message, which is a part of the input.
-fn tell_payload(called: Called, input: &[u8; INPUT_SIZE]) {
-    let bytes = &input[..];
-    let start = called.start;
-    let end = called.end;
-    if start < end && end <= bytes.len() {
-        io::write_all(STDERR_FILENO, &bytes[start..end]);
-        io::write_all(STDERR_FILENO, b"\n");
+// The line is lost.
+fn lose(end: End) -> End {
+    let c = end.connection;
+    let called = engine::lost_line(c);
+    let connection = called.connection;
+    End {
+        connection,
+        held: end.held,
     }
 }
 
-// Asks for a session and for all that it is to send. A turn writes it, so nothing is written here.
-fn request(c: Connection, queue: &mut [u8; QUEUE_SIZE]) -> Connection {
-    let opened = engine::open_session(c, NUMBER);
-    let c = opened.connection;
-    let queued = engine::put(c, NUMBER, b"abc", queue);
-    let c = queued.connection;
-    let finished = engine::finish(c, NUMBER);
-    finished.connection
-}
-
-// Writes and sends Data messages until no session has anything that it may send. A loop must end, so it counts down from a
-// number that no run uses up.
-fn take_turns(
-    before: Connection,
-    queue: &mut [u8; QUEUE_SIZE],
-    room: &mut [u8; ROOM_SIZE],
-) -> Connection {
-    let mut c = before;
-    let mut left = u64::MAX;
-    while left > 0 {
-        let called = engine::turn(c, queue, room);
-        c = called.connection;
-        send(called, room);
-        left = if called.wrote == 0 { 0 } else { left - 1 };
+// Reads more of the input; where it has ended, the line is lost.
+fn wait(end: End, input: &mut [u8; INPUT_SIZE]) -> End {
+    let held = input::read_behind(input, end.held);
+    if held == end.held {
+        return lose(end);
     }
-    c
+    let connection = end.connection;
+    End { connection, held }
 }
 
-// No message is all there: reads more of the input, and where it has ended, tells the engine that the line is lost.
-fn wait(client: Client, input: &mut [u8; INPUT_SIZE]) -> Client {
-    let connection = client.connection;
-    let held = input::read_behind(input, client.held);
-    if held == client.held {
-        let called = engine::lost_line(connection);
-        let connection = called.connection;
-        return Client { connection, held };
+// A refusal of receive: with 10 a header or message is not complete yet. This program meets no other, and would give up.
+fn refused(end: End, refusal: Refusal, input: &mut [u8; INPUT_SIZE]) -> End {
+    match refusal {
+        Refusal::Incomplete => wait(end, input),
+        _ => lose(end),
     }
-    Client { connection, held }
 }
 
-// Takes one header or message, sends the reply, and then what is ready to be sent.
+// Takes one header or message, sends the reply, and does what the program wants to do then.
 fn step(
-    client: Client,
+    end: End,
+    role: Role,
     input: &mut [u8; INPUT_SIZE],
     queue: &mut [u8; QUEUE_SIZE],
     room: &mut [u8; ROOM_SIZE],
-) -> Client {
-    let c = client.connection;
-    let called = engine::receive(c, first(input, client.held), room);
+) -> End {
+    let c = end.connection;
+    let called = engine::receive(c, first(input, end.held), room);
     let answer = called.answer;
-    if let Answer::Refused(_) = answer {
-        return wait(client, input);
+    if let Answer::Refused(refusal) = answer {
+        return refused(end, refusal, input);
     }
     send(called, room);
-    tell(text_state::answered(Line::new().text(b"receive"), answer, called.used));
-    tell_payload(called, input);
-    let mut c = called.connection;
-    if let Answer::Header(_) = answer {
-        c = request(c, queue);
-    }
-    Client {
-        connection: take_turns(c, queue, room),
-        held: input::drop_first(input, client.held, called.used),
-    }
+    tell::received(called, input);
+    let c = called.connection;
+    let connection = match answer {
+        Answer::Header(_) => calls::at_header(c, role, queue, room),
+        Answer::Message { message, .. } => calls::at_message(c, role, message, queue, room),
+        _ => c,
+    };
+    let held = input::drop_first(input, end.held, called.used);
+    End { connection, held }
 }
 
-// Sends our header, and then takes what arrives.
-fn start(room: &mut [u8; ROOM_SIZE]) -> Client {
-    let setup = Setup {
-        role: Role::Client,
-        header: 4,
-    };
-    let called = engine::start(Connection::new(setup), room);
+// A new connection; a client sends its header at once.
+fn begin(role: Role, room: &mut [u8; ROOM_SIZE]) -> End {
+    let c = Connection::new(Setup { role, header: 4 });
+    let called = engine::start(c, room);
     send(called, room);
     let connection = called.connection;
-    Client {
+    End {
         connection,
         held: 0,
     }
 }
 
-fn main() {
+// A connection goes on until it is over, and at a client until the outcome of the request is known.
+fn goes_on(c: Connection) -> bool {
+    let table = c.sessions;
+    let x = table[5];
+    let outcome = x.outcome;
+    match outcome {
+        Outcome::None => !c.over,
+        Outcome::Running => !c.over,
+        _ => false,
+    }
+}
+
+fn run(role: Role) {
     let mut input = [0u8; INPUT_SIZE];
     let mut queue = [0u8; QUEUE_SIZE];
     let mut room = [0u8; ROOM_SIZE];
-    let mut client = start(&mut room);
+    let mut end = begin(role, &mut room);
     let mut left = u64::MAX;
-    while left > 0 && !client.connection.over {
-        client = step(client, &mut input, &mut queue, &mut room);
+    while left > 0 && goes_on(end.connection) {
+        end = step(end, role, &mut input, &mut queue, &mut room);
         left -= 1;
     }
-    let table = client.connection.sessions;
-    tell(text_state::session_line(NUMBER, table[5]));
+    let table = end.connection.sessions;
+    tell::session(5, table[5]);
+}
+
+fn main() {
+    let mut word = [0u8; 7];
+    let n = os::arg(1, &mut word);
+    if check::same(&word[..n], b"client") {
+        run(Role::Client);
+    } else if check::same(&word[..n], b"server") {
+        run(Role::Server);
+    } else {
+        tell::usage();
+    }
 }

@@ -1,7 +1,7 @@
 -- `take_turns` is safe and ends: the number of turns that are left falls.
 use borrow.Author.Needs.{needs}
-use Rattle.engine_example.proofs.take_turns.Statement.{statement}
-use Rattle.engine_example.proofs.take_turns.Tie as tie
+use Rattle.engine_example.proofs.calls.take_turns.Statement.{statement}
+use Rattle.engine_example.proofs.calls.take_turns.Tie as tie
 
 abbrev Inv-loop : tie.InvT-loop
 Inv-loop queue₀ room₀ c₀ left₀ queue room c left = Unit {0}
