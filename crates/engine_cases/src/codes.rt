@@ -138,7 +138,7 @@ fn session_of(code: &[u8]) -> Session {
     }
 }
 
-// An end whose header number is the far one's too.
+// An end whose header number is also the far end's.
 pub(crate) fn state_of(role: Role, code: &[u8]) -> Connection {
     let mark = letter(code, 2);
     let c = Connection {

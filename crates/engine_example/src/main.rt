@@ -1,6 +1,6 @@
 // One request over a line: a client whose standard input is what arrives, and whose standard output is what it sends.
 //
-// It opens session 5, sends "abc" and the end, and tells on standard error what it receives, until the input ends or the
+// It opens session 5, sends "abc" and the end, and reports on standard error what it receives, until the input ends or the
 // connection is over. docs/API.md explains it.
 mod input;
 
@@ -18,7 +18,7 @@ use text_line::first;
 
 const NUMBER: u8 = 5;
 
-// The room that turn asks for; no other call asks for more.
+// The room that turn needs; no other call needs more.
 const ROOM_SIZE: usize = 260;
 
 // What is kept between calls beside the buffers: the connection, and how many bytes of input no call has used yet.
@@ -38,7 +38,7 @@ fn tell(line: Line) {
     io::write_all(STDERR_FILENO, b"\n");
 }
 
-// Tells the payload of a message, which is a part of the input.
+// Reports the payload of a message, which is a part of the input.
 fn tell_payload(called: Called, input: &[u8; INPUT_SIZE]) {
     let bytes = &input[..];
     let start = called.start;
@@ -77,7 +77,7 @@ fn take_turns(
     c
 }
 
-// No message is all there: reads more of the input, and where it has ended, tells the engine that the line is lost.
+// No message is complete: reads more input, or tells the engine that the line is lost if the input has ended.
 fn wait(client: Client, input: &mut [u8; INPUT_SIZE]) -> Client {
     let connection = client.connection;
     let held = input::read_behind(input, client.held);
