@@ -61,14 +61,14 @@ pub fn to_write(c: Connection, room: usize) -> Gate
     further(is_up(c), room < 4, Refusal::WrongRoom)
 }
 
-// The checks of a call on a session that writes nothing.
+// The checks of a call on a session; the call writes nothing.
 pub fn to_session(c: Connection, n: u8) -> Gate
     ensures { λ r. ⌜ gateAs r ≡ toGate (upAndRunning c (numberIn n (take tt))) ⌝ }
 {
     further(is_up(c), 128 <= n, Refusal::NoSuchSession)
 }
 
-// The checks of a call on a session that writes 4 bytes.
+// The checks of a call on a session; the call writes 4 bytes.
 pub(crate) fn to_write_session(c: Connection, n: u8, room: usize) -> Gate
     ensures { λ r. ⌜ gateAs r ≡ toGate (upAndRunning c (roomFor 4 room (numberIn n (take tt)))) ⌝ }
 {

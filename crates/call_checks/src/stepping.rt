@@ -1,4 +1,4 @@
-// A call on one session that writes: the checks that such calls share, then the result of the session's step.
+// A call that writes, on one session: the checks that such calls share, then the result of the session's step.
 use crate::Gate;
 use crate::gates::to_write_session;
 use crate::results::done;

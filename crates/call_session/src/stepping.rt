@@ -1,4 +1,4 @@
-// A call on one session that writes nothing: its checks, then the result of the session's step.
+// A call that writes nothing, on one session: its checks, then the result of the session's step.
 use call_checks::Gate;
 use call_checks::done;
 use call_checks::refused;

@@ -65,7 +65,7 @@ pub(crate) fn letter(s: &[u8], i: usize) -> u8 {
     b' '
 }
 
-// The number that a letter stands for, 0 where it stands for none.
+// The number that a letter represents, or 0 if it represents none.
 pub(crate) fn number_of(b: u8) -> u32 {
     let i = find(b"123456789abcdef-oplwmKFGHYMXZTPQRSNIJABCD", 0, b);
     if i < 41 {

@@ -1,4 +1,4 @@
-// A row: each call is made by itself in one state, and a number is printed for each.
+// A row: each call is made by itself in one state, and ok or a number is printed for each.
 use crate::call;
 use crate::call::Call;
 use crate::codes::letter;
@@ -44,7 +44,7 @@ fn prefix(s: &mut [u8], n: usize) -> &mut [u8] {
     if n <= s.len() { &mut s[0..n] } else { s }
 }
 
-// Prints a call's word with the number of its refusal.
+// Prints a call's word with ok or the number of its refusal.
 fn tell(asked: Call, refusal: u8) {
     say(show::SPACE);
     say(call::word_of(asked));

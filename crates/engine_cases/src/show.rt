@@ -68,7 +68,7 @@ pub(crate) fn text(words: &[u8]) {
     io::write_all(STDOUT_FILENO, words);
 }
 
-// The first place of a byte from a place on, or the end.
+// Where a byte is first found from a place on, or the end.
 pub(crate) fn find(s: &[u8], at: usize, b: u8) -> usize {
     let mut i = at;
     while i < s.len() {

@@ -108,7 +108,7 @@ some-data (o ∷ before) after b close eof ack n size e = some-data before after
     rest (i ∷ x) y e = absurd (let z : _≡_ {A = ℕ} 0 1 = cc in omega arith)
 
 module _ (s : State) (k : Call) (n : ℕ) where
-  -- a Data message that is written is a turn's, alone, and may be written then
+  -- a Data message that is written is written alone, by a turn, and may be written then
   abbrev WritesData : Setup → Decision → Type 0
   WritesData z d =
       (before after : List Output) (b close eof ack : Bool) (size : ℕ)

@@ -147,7 +147,7 @@ module _ (r : Role) (k : Call) (bytes : List ℕ) (outs : List Output) where
   reads-single (in-order q) h = subst (λ (os : List Output). length os ≤ 1) (sym (written-is r bytes outs q)) h
   reads-single (other-cookie cookie told wide e f) h = subst (λ (os : List Output). length os ≤ 1) (sym f) (omega arith)
 
-  -- what is read among at most one output is read alone
+  -- if there is at most one output, what is read is alone
   pub reads-alone : (before after : List Output) (o : Output) → Reads r k bytes outs → length outs ≤ 1 → allWritten r bytes ≡ before ++ (o ∷ after) → allWritten r bytes ≡ o ∷ []
   reads-alone before after o q h e =
       let l : length (before ++ (o ∷ after)) ≤ 1 = subst (λ (os : List Output). length os ≤ 1) e (reads-single q h) in

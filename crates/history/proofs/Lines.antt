@@ -80,7 +80,7 @@ line-single (header-out own ∷ []) h = omega arith
 line-single (sent m ∷ []) h = omega arith
 line-single (o ∷ p ∷ outs) h = absurd h
 
--- a Ping is read alone, whatever its cookie
+-- the bytes of a Ping are read as one Ping alone, whatever its cookie
 ping-alone : (r : Role) (cookie : ℕ) → (told : ℕ) × (allWritten r (bytesOfAll [] (sent (msg.Ping cookie) ∷ [])) ≡ sent (msg.Ping told) ∷ [])
 unfolding bytesOfAll writtenUpTo readMessage readConnectionHeader parseHeader typed allowed kindOf pick
 ping-alone r cookie = (_, refl)

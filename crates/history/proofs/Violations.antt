@@ -1,4 +1,4 @@
--- A violation as the log tells it: how it ends the connection, and what it means to write. What we find is told so, and so written.
+-- A violation as the log tells it: how it ends the connection, and what it means to write. What we find is as told, with its bytes.
 use mathlib.Core.Path.{_≡_, refl, sym, ap, _∙_, subst}
 use mathlib.Core.Bool.{Bool, true, false, not, true≢false, false≢true}
 use mathlib.Core.List.{List, [], _∷_, _++_}
@@ -72,7 +72,7 @@ Told s k (refuse n) = Unit {0}
 Told s k (violate b) = Broken s k b
 Told s k (accept e) = Unit {0}
 
--- a violation that we find is one that the log tells
+-- a violation that we find is as the log tells it
 pub breach-told : (s : State) (input room : List ℕ) (n : ℕ) → Told s (receive input room) (breach (s .connection) n)
 breach-told s input room n =
     let a = accountOf s 0 in
