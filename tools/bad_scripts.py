@@ -1,5 +1,5 @@
-"""Scripts with a line that is none, and some that end oddly and are right, each with the output that every player must give and what
-replay says of it on standard error."""
+"""Scripts with a line that is not valid, and some that end oddly and are right, each with the output that every player must give and
+what replay says about it on standard error."""
 import re
 
 # Four lines, so that a bad line behind them is the fifth.

@@ -17,7 +17,7 @@ NO_NAMES = {"let", "in", "where", "module", "record", "data"}
 
 
 def spelled(name):
-    """A name as it is written where it is used: of an operator, each of its parts."""
+    """A name as it is written where it is used; for an operator, each of its parts."""
     return [part for part in name.split("_") if part]
 
 
@@ -47,7 +47,7 @@ def blocks(text):
 
 class Declarations:
     def __init__(self, folder, crate):
-        """Those of the crate of a name, whose files stand in a folder; fails where a `use` line names none of them."""
+        """The declarations of the crate of a name, whose files are in a folder; fails if a `use` line names none of them."""
         self.blocks, self.named, self.cited = {}, {}, {}
         self.used, self.modules = collections.defaultdict(dict), collections.defaultdict(dict)
         texts = {f"{path.parent.name}/{path.name}": path.read_text() for part in ("specs", "proofs") for path in folder.glob(f"{part}/*.antt")}
@@ -79,7 +79,7 @@ class Declarations:
         return next(((file, at) for at, b in enumerate(self.blocks.get(file, [])) if b["first"] <= line <= b["last"]), None)
 
     def holding(self, file, text):
-        """The declaration whose text has a part, which stands in the file once, or None."""
+        """The declaration whose text has a part, which is in the file once, or None."""
         return next(((file, at) for at, b in enumerate(self.blocks.get(file, [])) if text in "\n".join(b["lines"])), None)
 
     def named_in(self, file, text):

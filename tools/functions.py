@@ -1,4 +1,4 @@
-"""The functions of a crate's code: where each stands, what its contract says, and where its proof stands."""
+"""The functions of a crate's code: where each is, what its contract says, and where its proof is."""
 import collections
 import re
 
@@ -10,7 +10,7 @@ Function = collections.namedtuple("Function", "name file lines clauses body cont
 
 
 def proof_places(file, owner, name):
-    """Where the proof of a function may stand; that of a method stands below its type, which may be declared in the root."""
+    """Where the proof of a function may be; that of a method is below its type, which may be declared in the root."""
     module = file.removeprefix("src/").removesuffix(".rt")
     below = f"{owner}/{name}" if owner else name
     in_root = [f"proofs/{below}/Proof.antt"] if owner or module in ("lib", "main") else []
@@ -50,6 +50,6 @@ def functions_in(file, text):
 
 
 def functions(folder):
-    """Those of the crate in a folder."""
+    """The functions of the crate in a folder."""
     paths = sorted(folder.glob("src/**/*.rt"))
     return [function for path in paths for function in functions_in(str(path.relative_to(folder)), path.read_text())]

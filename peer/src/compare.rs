@@ -14,7 +14,7 @@ pub struct Settings {
     pub program: Program,
     pub seeds: Range<u64>,
     pub calls: u64,
-    /// After so many scripts that differ the run stops.
+    /// The run stops after this many scripts that differ.
     pub differences: u64,
     pub full: bool,
 }

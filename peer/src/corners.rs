@@ -9,12 +9,12 @@ use crate::script::Call;
 use crate::session::{Ours, Session, Theirs, SLOT};
 use crate::wire::{Data, Message};
 
-/// One call with what stood before and after it.
+/// One call with the state before and after it.
 pub struct Step<'a> {
     call: &'a Call,
     before: &'a Before,
     answer: &'a Result<Report, u8>,
-    /// The session that the call was about, as it stands now.
+    /// The session that the call was about, as it is now.
     now: Option<&'a Session>,
     written: &'a [u8],
     over: bool,

@@ -26,7 +26,7 @@ struct Cell {
     refused: u64,
 }
 
-/// What stood before a call: the number it is about, its session, and what kind of thing it is.
+/// The state before a call: the number it is about, its session, and what kind of thing it is.
 pub struct Before {
     /// The number that the call is about.
     pub id: Option<u8>,
@@ -38,7 +38,7 @@ pub struct Before {
     pub last: u8,
     /// Whether the headers are exchanged and the connection is not over.
     messages: bool,
-    /// Whether a client's session runs that was sent.
+    /// Whether a client's session that was sent is running.
     pub running: bool,
     /// Whether a number is opening.
     pub opening: bool,
@@ -111,7 +111,7 @@ impl Cover {
         self.script_errors += 1;
     }
 
-    /// Gives what stands before a call.
+    /// Gives the state before a call.
     pub fn before(&self, player: &Player, call: &Call) -> Before {
         let (id, event) = match call {
             Call::Receive { bytes, .. } => (received_id(player, bytes), received_kind(bytes)),

@@ -53,7 +53,7 @@ pub struct Engine {
     pub sessions: [Session; NUMBERS],
 }
 
-/// The checks that stand before the work of the calls.
+/// The checks that come before the work of the calls.
 impl Engine {
     /// Refuses with 2 where the connection is over.
     fn check_over(&self) -> Result<(), u8> {

@@ -80,13 +80,13 @@ fn run(arguments: &[String]) -> Result<bool, String> {
     }
 }
 
-/// Prints bytes; that nobody reads them any more is no fault.
+/// Prints bytes; it is not a fault if nobody reads them any more.
 fn print(bytes: &[u8]) -> Result<bool, String> {
     let mut out = io::stdout().lock();
     finish(out.write_all(bytes).and_then(|()| out.flush()))
 }
 
-/// Takes a closed pipe as a quiet end, and tells any other fault.
+/// Treats a closed pipe as a quiet end, and reports any other fault.
 fn finish(result: io::Result<()>) -> Result<bool, String> {
     match result {
         Ok(()) => Ok(true),

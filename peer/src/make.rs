@@ -18,11 +18,11 @@ use crate::wire::{Message, Role};
 /// The calls of a script where the command names no number.
 pub const USUAL_CALLS: u64 = 200;
 
-/// Of so many seeds one plays the long grant run, whatever the number of calls.
+/// One of this many seeds plays the long grant run, whatever the number of calls.
 const LONG_GRANT_EVERY: u64 = 2048;
 const LONG_GRANT_SEED: u64 = 78;
 
-/// Of so many seeds one is about a first byte; 1,024 seeds in a row have all first bytes.
+/// One of this many seeds is about a first byte; 1,024 seeds in a row have all first bytes.
 const FIRST_BYTE_EVERY: u64 = 4;
 const FIRST_BYTE_SEED: u64 = 1;
 
@@ -45,7 +45,7 @@ enum Plan {
     Lines,
 }
 
-/// How a script is seasoned.
+/// The random settings of a script.
 struct Taste {
     /// From this call on, damaged input may come.
     noise_from: u64,
@@ -141,7 +141,7 @@ fn choose_pool(rng: &mut Rng) -> Vec<u8> {
     }
 }
 
-/// Chooses how the script is seasoned.
+/// Chooses the random settings of the script.
 fn choose_taste(rng: &mut Rng, limit: u64) -> Taste {
     let clean = rng.percent(45);
     Taste {
@@ -324,7 +324,7 @@ impl Maker {
 
 /// The end of every script.
 impl Maker {
-    /// Ends the connection in some way, tries calls after it, and looks at all that stands.
+    /// Ends the connection in some way, tries calls after it, and looks at the whole state.
     fn end(&mut self) {
         if !self.near.engine.over {
             self.leave_one_opening();
@@ -346,7 +346,7 @@ impl Maker {
         self.last_lines();
     }
 
-    /// At times opens a number of which nothing will be sent.
+    /// At times opens a number for which nothing will be sent.
     fn leave_one_opening(&mut self) {
         let engine = &self.near.engine;
         let id = pick::id_where(&mut self.rng, engine, &self.pool, Session::may_open);

@@ -1,4 +1,4 @@
-//! Picks random calls and messages, such as fit a connection's state and such as do not.
+//! Picks random calls and messages, some that fit a connection's state and some that do not.
 
 use crate::engine::{Engine, Phase};
 use crate::ration::Ration;
@@ -7,7 +7,7 @@ use crate::script::{Call, Room, LARGEST_PUT};
 use crate::session::{Ours, Session, Theirs, SLOT};
 use crate::wire::{Data, Message, Role};
 
-/// What a run of calls is after.
+/// The aim of a run of calls.
 #[derive(Clone, Copy, Debug, PartialEq, Eq)]
 pub enum Mood {
     /// All sorts of work.

@@ -102,7 +102,7 @@ const LATE: Effect = Effect {
 pub struct Session {
     pub ours: Ours,
     pub theirs: Theirs,
-    /// The sides that stood before the open; they count only while ours is opening.
+    /// The sides before the open; they count only while ours is opening.
     pub before: (Ours, Theirs),
     pub outcome: Outcome,
     pub outbound: Ration,
@@ -136,7 +136,7 @@ impl Session {
         }
     }
 
-    /// Forgets the bytes that wait and the finish that was asked.
+    /// Forgets the bytes that wait and the finish that was asked for.
     pub fn drop_waiting(&mut self) {
         self.waiting = 0;
         self.finish = false;
@@ -189,7 +189,7 @@ impl Session {
         }
     }
 
-    /// Makes our side opening and remembers the sides that stood before.
+    /// Makes our side opening and remembers the sides before.
     pub fn open(&mut self) {
         self.before = self.pair();
         self.ours = Ours::Opening;

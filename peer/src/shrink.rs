@@ -11,7 +11,7 @@ const LARGEST_BUDGET: u32 = 3_000;
 /// The most time that a shrink may take.
 const LARGEST_TIME: Duration = Duration::from_secs(60);
 
-/// A script of so many lines is short enough to try every few lines of it.
+/// A script of at most this many lines is short enough to try every few lines of it.
 const SHORT: usize = 40;
 
 /// A script being shrunk, as its lines.
@@ -34,7 +34,7 @@ pub fn shrink(script: &[u8], differs: &mut dyn FnMut(&[u8]) -> bool) -> Vec<u8> 
         end: Instant::now() + LARGEST_TIME,
         differs,
     };
-    // Should the difference hang on a missing 0A at the end, the script stays as it is.
+    // If the difference depends on a missing 0A at the end, the script stays as it is.
     if !shrinker.still(0..shrinker.lines.len(), &[], 0..0) {
         return script.to_vec();
     }
@@ -102,7 +102,7 @@ impl Shrinker<'_> {
         }
     }
 
-    /// Tries to drop each piece of this size, from the end on; tells whether one went.
+    /// Tries to drop each piece of this size, from the end on; tells whether one was dropped.
     fn drop_pieces(&mut self, size: usize) -> bool {
         let mut dropped = false;
         let mut end = self.lines.len();
@@ -117,7 +117,7 @@ impl Shrinker<'_> {
         dropped
     }
 
-    /// Drops a few neighbouring lines of a short script at once, wherever they stand.
+    /// Drops a few neighbouring lines of a short script at once, wherever they are.
     fn drop_windows(&mut self) -> bool {
         let count = self.lines.len();
         if count > SHORT {
@@ -189,7 +189,7 @@ fn text_of(call: &Call) -> Vec<u8> {
     line
 }
 
-/// Gives simpler forms of a line that is no call: with a piece or a byte left out.
+/// Gives simpler forms of a line that is not a call: with a piece or a byte left out.
 fn simpler_text(line: &[u8]) -> Vec<Vec<u8>> {
     let mut forms = Vec::new();
     if line.len() > 8 {

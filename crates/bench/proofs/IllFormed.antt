@@ -13,7 +13,7 @@ every-form-row =
     and (refl, refl) and (refl, refl)
     -- and 0 unless our side is opening or open
     and (refl, refl) and (refl, refl) and (refl, refl)
-    -- finish asked only there
+    -- finish asked for only there
     and (refl, refl) and (refl, refl) and (refl, refl) and (refl, refl)
     -- no opening at a server
     and (refl, refl) and (refl, refl)

@@ -1,4 +1,4 @@
--- States that break one item of well formed each, beside a state that differs in one place and is well formed.
+-- States that each break one item of well formed, each beside a state that differs in one place and is well formed.
 use mathlib.Core.Path.{_≡_}
 use mathlib.Core.Bool.{true, false}
 use mathlib.Core.List.{List, [], _∷_}
@@ -50,7 +50,7 @@ openSides = sides.Live side.Open side.Open
 abbrev pub sessionAt : Sides → Session
 sessionAt z = withSides z blank
 
--- the rations of an open session, what waits on some sides, and whether a finish is asked there
+-- an open session with these rations, a session with these sides and n bytes waiting, and one with a finish asked for
 abbrev pub openWith : Ration → Ration → Session
 openWith out in′ = withRations out in′ (sessionAt openSides)
 
@@ -72,11 +72,11 @@ formTable =
     -- waiting at most 256: on an open side, and on an opening
     ∷ form-row (numberSet serverUp 5 (waitingOn openSides 257)) (numberSet serverUp 5 (waitingOn openSides 256))
     ∷ form-row (numberSet clientUp 127 (waitingOn (sides.Opening before.Ended) 257)) (numberSet clientUp 127 (waitingOn (sides.Opening before.Ended) 256))
-    -- and 0 unless our side is opening or open: finished, ended, idle
+    -- and 0 unless our side is opening or open: here it is finished, ended, idle
     ∷ form-row (numberSet serverUp 0 (waitingOn (sides.Live side.Finished side.Open) 1)) (numberSet serverUp 0 (waitingOn (sides.Live side.Finished side.Open) 0))
     ∷ form-row (numberSet clientUp 5 (waitingOn (sides.Live side.Ended side.Open) 1)) (numberSet clientUp 5 (waitingOn (sides.Live side.Ended side.Open) 0))
     ∷ form-row (numberSet clientUp 127 (waitingOn sides.Idle 1)) (numberSet clientUp 127 (waitingOn sides.Idle 0))
-    -- finish asked only there: not on a finished, an ended or an idle number
+    -- finish asked for only there: not on a finished, an ended or an idle number
     ∷ form-row (numberSet serverUp 5 (finishAsked (sides.Live side.Finished side.Open))) (numberSet serverUp 5 (sessionAt (sides.Live side.Finished side.Open)))
     ∷ form-row (numberSet clientUp 5 (finishAsked (sides.Live side.Ended side.Open))) (numberSet clientUp 5 (sessionAt (sides.Live side.Ended side.Open)))
     ∷ form-row (numberSet clientUp 7 (finishAsked (sides.Live side.Ended side.Open))) (numberSet clientUp 7 (finishAsked openSides))

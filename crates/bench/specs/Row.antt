@@ -1,4 +1,4 @@
--- A row is an input and what must come of it. It holds where the definition that the public call's contract cites gives exactly that.
+-- A row is an input and its required result. It holds if the definition that the public call's contract cites gives exactly that result.
 use mathlib.Core.Path.{_≡_}
 use mathlib.Core.Bool.{Bool, true, false}
 use mathlib.Core.List.{List, [], _∷_}
@@ -27,7 +27,7 @@ use Rattle.clock_limit.specs.Limit.{limitRule}
 pub data Watched : Type 0 where
   inbound outbound : (session : ℕ) → Watched
 
--- what comes of a receive: the answer, how many bytes of the input are used, the bytes written, the ration after it, and whether the
+-- the result of a receive: the answer, how many bytes of the input are used, the bytes written, the ration after it, and whether the
 -- connection is over
 pub record Came : Type 0 where
   pub answer : Result Report
@@ -43,7 +43,7 @@ pub data CaseRow : Type 0 where
   -- a message from a sender, or from either, and the bytes that follow its four header bytes
   message-case : (from : Role) (bytes : List ℕ) → Result (Message × List ℕ) → CaseRow
   message-of-either : (bytes : List ℕ) → Result (Message × List ℕ) → CaseRow
-  -- a message to an end that was just made and has received `earlier`, with the ration as it stands before
+  -- a message to an end that was just made and has received `earlier`, with the ration before it
   receive-case : (end : Setup) (earlier : List (List ℕ)) (watched : Watched) (before : Ration) (input : List ℕ) → Came → CaseRow
   -- samples to a new clock, and the limit after each
   limits : (setting : Setting) (samples : List ℕ) → List (Result Float) → CaseRow
@@ -56,7 +56,7 @@ granted (ok number) = ok (fromHeader number)
 granted (refused n) = refused n
 granted (violation n) = violation n
 
--- a message that is read, with as many of the bytes behind its header as it has
+-- a message that is read, with the bytes of its body, which follow its header
 abbrev pub followed : List ℕ → Result Message → Result (Message × List ℕ)
 followed bytes (ok m) = ok (m, take (bodyLength m) (drop 4 bytes))
 followed bytes (refused n) = refused n
@@ -77,7 +77,7 @@ abbrev pub rationAt : Watched → Connection → Ration
 rationAt (inbound n) c = at c n .inbound
 rationAt (outbound n) c = at c n .outbound
 
--- what a receive gives, with the room after it
+-- the result of a receive, from what the call gives and the room after it
 abbrev pub came : Watched → Given × List ℕ → Came
 came w (g, lent) =
     record {
@@ -88,7 +88,7 @@ came w (g, lent) =
       over = g .connection .over;
     }
 
--- the connection is well formed and up, with this ration, and this comes of the input
+-- the connection is well formed and up, has this ration, and the input has this result
 pub record Receives (c : Connection) (w : Watched) (before : Ration) (input : List ℕ) (must : Came) : Type 0 where
   pub formed : wellFormed c ≡ true
   pub up : exchanged (c .stage) ≡ true

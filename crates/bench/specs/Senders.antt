@@ -8,7 +8,7 @@ use Rattle.bench.specs.Row.{CaseRow, message-case, message-of-either}
 
 abbrev pub senderTable : List CaseRow
 senderTable =
-    -- the ten types: from either, but Shutdown and Close from a server alone, Acknowledgment from a client alone
+    -- the ten types: from either, but Shutdown and Close only from a server, Acknowledgment only from a client
     message-of-either (0x00 ∷ 0x00 ∷ 0x00 ∷ 0x02 ∷ 0xAA ∷ 0xBB ∷ []) (ok (NoOperation 2, 0xAA ∷ 0xBB ∷ []))
     ∷ message-case Server (0x02 ∷ 0x00 ∷ 0x00 ∷ 0x02 ∷ 0xAA ∷ 0xBB ∷ []) (ok (Shutdown 2, 0xAA ∷ 0xBB ∷ []))
     ∷ message-case Client (0x02 ∷ 0x00 ∷ 0x00 ∷ 0x02 ∷ 0xAA ∷ 0xBB ∷ []) (violation 23)
@@ -22,7 +22,7 @@ senderTable =
     ∷ message-case Client (0x40 ∷ 0x07 ∷ 0x00 ∷ 0x00 ∷ []) (ok (Acknowledgment 7, []))
     ∷ message-case Server (0x40 ∷ 0x07 ∷ 0x00 ∷ 0x00 ∷ []) (violation 23)
     ∷ message-of-either (0x80 ∷ 0x07 ∷ 0x00 ∷ 0x02 ∷ 0xAA ∷ 0xBB ∷ []) (ok (Data false false false false 7 2, 0xAA ∷ 0xBB ∷ []))
-    -- partial: from a server alone
+    -- partial: only from a server
     ∷ message-case Server (0x22 ∷ 0x07 ∷ 0x00 ∷ 0x02 ∷ 0xAA ∷ 0xBB ∷ []) (ok (Abort true 7 2, 0xAA ∷ 0xBB ∷ []))
     ∷ message-case Client (0x22 ∷ 0x07 ∷ 0x00 ∷ 0x02 ∷ 0xAA ∷ 0xBB ∷ []) (violation 24)
     -- the flags of Data from a client: open and eof, and no other

@@ -1,5 +1,5 @@
--- The sizes that calls ask for: a room one byte short and a queue one byte short or long are refused with 8, what is exactly enough is
--- not; a slot takes 256 bytes and no more. The states are made by calls.
+-- The sizes that calls need: a room one byte short and a queue one byte short or long are refused with 8, the exact size is not; a slot
+-- takes 256 bytes and no more. The states are made by calls.
 use mathlib.Core.Path.{_≡_}
 use mathlib.Core.Bool.{true, false}
 use mathlib.Core.List.{List, [], _∷_}
@@ -14,7 +14,7 @@ use Rattle.protocol.specs.Judge.{Report, done, served, header-received}
 use Rattle.protocol.specs.Judge as report
 use Rattle.protocol.specs.Result.{Given, startCall, openCall, putCall, finishCall, turnCall, grantCall, abortCall, closeCall, pingCall, shutdownCall, receiveCall}
 
--- what a call answers, with the bytes that it writes to its room, and what these must be
+-- what a call answers and the bytes that it writes to its room, beside what these must be
 pub record SizeRow : Type 0 where
   pub gives : Result Report × List ℕ
   pub must : Result Report × List ℕ
@@ -27,7 +27,7 @@ unfoldable pub AllSizes : List SizeRow → Type 0
 AllSizes [] = Unit {0}
 AllSizes (r ∷ rs) = (r .gives ≡ r .must) × AllSizes rs
 
--- ---- lent buffers, and what a call gives of them
+-- ---- lent buffers, and what a call answers and writes
 
 abbrev pub ofZeros : ℕ → List ℕ
 ofZeros n = replicate n 0
@@ -56,7 +56,7 @@ startedClient = startCall newClient (ofZeros 8) .0 .connection
 abbrev pub openingClient : Connection
 openingClient = openCall (receiveCall startedClient (header-of 4) (ofZeros 12) .0 .connection) 5 .connection
 
--- 256 bytes, each 7, wait for number 5, and stand in its slot
+-- 256 bytes, each 7, wait for number 5 and are in its slot
 abbrev pub sevens : ℕ → List ℕ
 sevens n = replicate n 7
 
@@ -91,7 +91,7 @@ sizeTable =
     ∷ gives-and-must (inRoomOf (receiveCall newServer (header-of 4) (ofZeros 12))) (ok (header-received 4)) (header-of 8)
     ∷ gives-and-must (inRoomOf (receiveCall openServer (0x00 ∷ 0x00 ∷ 0x00 ∷ 0x00 ∷ []) (ofZeros 11))) (refused 8) []
     ∷ gives-and-must (inRoomOf (receiveCall openServer (0x00 ∷ 0x00 ∷ 0x00 ∷ 0x00 ∷ []) (ofZeros 12))) (ok (report.message (NoOperation 0) false)) []
-    -- grant, abort, close, ping, shutdown: 4; also of an opening, of which an abort writes nothing
+    -- grant, abort, close, ping, shutdown: 4; also for an opening, whose abort writes nothing
     ∷ gives-and-must (inRoomOf (grantCall openServer 5 256 (ofZeros 3))) (refused 8) []
     ∷ gives-and-must (inRoomOf (grantCall openServer 5 256 (ofZeros 4))) (ok done) (0x10 ∷ 0x05 ∷ 0x01 ∷ 0x00 ∷ [])
     ∷ gives-and-must (inRoomOf (abortCall openServer 5 true (ofZeros 3))) (refused 8) []
@@ -112,12 +112,12 @@ sizeTable =
     ∷ gives-and-must (ofQueue (putCall openingClient 5 (sevens 256) (ofZeros 32_768))) (ok done) []
     ∷ gives-and-must (ofQueue (putCall fullClient 5 (sevens 1) fullQueue)) (refused 6) []
     ∷ gives-and-must (ofQueue (putCall fullClient 5 [] fullQueue)) (ok done) []
-    -- turn: a room of 260 and a queue of 32,768, for an opening with a full slot, which goes whole
+    -- turn: a room of 260 and a queue of 32,768, for an opening with a full slot, which is sent whole
     ∷ gives-and-must (ofTurn (turnCall fullClient fullQueue (ofZeros 259))) (refused 8) []
     ∷ gives-and-must (ofTurn (turnCall fullClient (ofZeros 32_767) (ofZeros 260))) (refused 8) []
     ∷ gives-and-must (ofTurn (turnCall fullClient (ofZeros 32_769) (ofZeros 260))) (refused 8) []
     ∷ gives-and-must (ofTurn (turnCall fullClient fullQueue (ofZeros 260))) (ok (served 5)) (0x90 ∷ 0x05 ∷ 0x01 ∷ 0x00 ∷ sevens 256)
-    -- and of 260 where nothing waits
+    -- and a room of 260 even if nothing waits
     ∷ gives-and-must (ofTurn (turnCall openingClient (ofZeros 32_768) (ofZeros 259))) (refused 8) []
     ∷ gives-and-must (ofTurn (turnCall openingClient (ofZeros 32_768) (ofZeros 260))) (ok (served 5)) (0x90 ∷ 0x05 ∷ 0x00 ∷ 0x00 ∷ [])
     ∷ []

@@ -37,7 +37,7 @@ increment-for-5 n = 0x10 ∷ 0x05 ∷ n / 256 ∷ n % 256 ∷ []
 abbrev pub spent : List (List ℕ)
 spent = header-and-open ++ (data-for-5 256 ∷ [])
 
--- 65,535 times 16,384, twice, and 120 more than 32,000: 2,147,483,000
+-- 65,535 times 16,384, twice, and 120, added to 32,000: 2,147,483,000
 abbrev pub raised : List (List ℕ)
 raised = header-and-open ++ ((0x1E ∷ 0x05 ∷ 0xFF ∷ 0xFF ∷ []) ∷ (0x1E ∷ 0x05 ∷ 0xFF ∷ 0xFF ∷ []) ∷ increment-for-5 120 ∷ [])
 

@@ -1,4 +1,4 @@
--- What a call gives behind its gate, from what the gate comes to, what is asked of the session and what is written.
+-- The result of a call behind its gate, from the result of the gate, what is asked of the session and what is written.
 use mathlib.Core.Path.{_≡_, refl, sym, ap, _∙_}
 use mathlib.Core.Bool.{Bool, true, false}
 use mathlib.Core.List.{List, [], _∷_}
@@ -43,7 +43,7 @@ unfolding settle
 next-check true n p e = absurd (refused-not-ok (sym e))
 next-check false n p e = (refl, e)
 
--- behind the gate there is the room that was asked for
+-- behind the gate there is the room that the call needs
 module _ {g : Gate} (c : Connection) (stepped room : ℕ) (rest : Plan Unit) where
   pub roomy-running : gateAs g ≡ toGate (running c (roomFor stepped room rest)) → g ≡ gate.Passed → stepped ≤ room
   roomy-running e q =
@@ -72,7 +72,7 @@ module _ (effect : Taken → Effect) where
       → decision effect r ≡ decided (followedBy p (andThen effect ask))
   stepped p ask e q s = ap (decision effect) s ∙ step ask ∙ passed p e (andThen effect ask) q
 
-  -- a step that is asked for behind a gate
+  -- a step behind a gate
   pub stepped-behind : {g h : Gate} (p : Plan Unit) (r : Result Taken) → gateAs g ≡ toGate p → g ≡ h
       → behind (gateAs h) refuse (decision effect r) ≡ afterChecks p effect r
   stepped-behind p r e q = ap (λ (x : Result Unit). behind x refuse (decision effect r)) (sym (ap gateAs q) ∙ e)
@@ -82,7 +82,7 @@ module _ (effect : Taken → Effect) where
   by-rule p ask e =
       ap (afterChecks p effect) e ∙ ap (behind (toGate p) refuse) (step ask) ∙ gated refuse accept p (andThen effect ask)
 
--- ---- what a call that is taken gives
+-- ---- the result of a call that is taken
 
 abbrev pub giving : Connection → ℕ → Given
 giving c wrote = record { connection = c; answer = ok done; used = 0; wrote = wrote; start = 0; end = 0 }

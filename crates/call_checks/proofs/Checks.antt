@@ -1,4 +1,4 @@
--- Checks that are asked one after another: what a rule comes to behind a gate, from what the gate comes to.
+-- Checks one after another: the result of a rule behind a gate, from the result of the gate.
 use mathlib.Core.Path.{_≡_, refl}
 use mathlib.Core.Bool.{Bool, true, false}
 use Prim.Native.Nat.{ℕ}
@@ -12,7 +12,7 @@ followedBy (stop n) rest = stop n
 followedBy (check b n p) rest = check b n (followedBy p rest)
 followedBy (take u) rest = rest
 
--- one check more
+-- one more check
 pub further-check : (p : Plan Unit) (b : Bool) (n : ℕ) → further (toGate p) b n ≡ toGate (followedBy p (check b n (take tt)))
 unfolding settle
 further-check (stop m) b n = refl
@@ -21,7 +21,7 @@ further-check (check false m p) b n = further-check p b n
 further-check (take u) true n = refl
 further-check (take u) false n = refl
 
--- a gate with one check more, where the flag is the check's test
+-- a gate with one more check, where the flag is the check's test
 pub one-more : {r s : Result Unit} {fails : Bool} (p : Plan Unit) (b : Bool) (n : ℕ) → s ≡ further r fails n → fails ≡ b → r ≡ toGate p
     → s ≡ toGate (followedBy p (check b n (take tt)))
 one-more p b n e q h = rw (e, q, h) (further-check p b n)

@@ -1,4 +1,4 @@
--- What a call on a session gives, from what the session's step comes to: with nothing sent, and with 4 bytes at most.
+-- The result of a call on a session, from the result of the session's step: with nothing sent, and with 4 bytes at most.
 use mathlib.Core.Path.{_≡_, refl, _∙_}
 use mathlib.Core.Bool.{true, false}
 use mathlib.Core.List.{List, [], map}

@@ -1,4 +1,4 @@
--- What a call decides that asks a step of the session of a number, with 4 bytes of room to write in.
+-- What a call decides that takes a step of one session, with 4 bytes of room to write in.
 use Prim.Native.Nat.{ℕ}
 use Rattle.laws.specs.Result.{Result}
 use Rattle.state.specs.declared.Connection.{Connection}
@@ -12,6 +12,6 @@ use Rattle.call_checks.specs.Deciding.{afterChecks}
 abbrev pub checks : Connection → ℕ → ℕ → Plan Unit
 checks c n room = upAndRunning c (roomFor 4 room (numberIn n (take tt)))
 
--- what the step comes to counts behind them
+-- the result of the step counts after these checks
 abbrev pub steppedIn : Connection → ℕ → ℕ → Result Taken → Decision
 steppedIn c n room r = afterChecks (checks c n room) (setting-session c n (c .last) done) r

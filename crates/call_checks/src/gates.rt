@@ -23,7 +23,7 @@ pub fn is_running(c: Connection) -> Gate
     Gate::Refused(Refusal::IllFormed)
 }
 
-// One check more, after those of a gate.
+// One more check, after those of a gate.
 pub fn further(gate: Gate, fails: bool, refusal: Refusal) -> Gate
     ensures { λ r. ⌜ gateAs r ≡ Gate·further (gateAs gate) fails (refusalNumber refusal) ⌝ }
 {
@@ -38,7 +38,7 @@ pub fn further(gate: Gate, fails: bool, refusal: Refusal) -> Gate
     }
 }
 
-// And the headers are exchanged.
+// The state is well formed, the connection is not over, and the headers are exchanged.
 pub fn is_up(c: Connection) -> Gate
     ensures { λ r. ⌜ gateAs r ≡ toGate (upAndRunning c (take tt)) ⌝ }
 {
@@ -47,28 +47,28 @@ pub fn is_up(c: Connection) -> Gate
     further(is_running(c), !up, Refusal::NotExchanged)
 }
 
-// For start, which writes 8 bytes.
+// The checks of start, which writes 8 bytes.
 pub fn to_start(c: Connection, room: usize) -> Gate
     ensures { λ r. ⌜ gateAs r ≡ toGate (running c (roomFor 8 room (take tt))) ⌝ }
 {
     further(is_running(c), room < 8, Refusal::WrongRoom)
 }
 
-// For a call that writes 4 bytes.
+// The checks of a call that writes 4 bytes.
 pub fn to_write(c: Connection, room: usize) -> Gate
     ensures { λ r. ⌜ gateAs r ≡ toGate (upAndRunning c (roomFor 4 room (take tt))) ⌝ }
 {
     further(is_up(c), room < 4, Refusal::WrongRoom)
 }
 
-// For a call on a session, which writes nothing.
+// The checks of a call on a session; the call writes nothing.
 pub fn to_session(c: Connection, n: u8) -> Gate
     ensures { λ r. ⌜ gateAs r ≡ toGate (upAndRunning c (numberIn n (take tt))) ⌝ }
 {
     further(is_up(c), 128 <= n, Refusal::NoSuchSession)
 }
 
-// For a call on a session, which writes 4 bytes.
+// The checks of a call on a session; the call writes 4 bytes.
 pub(crate) fn to_write_session(c: Connection, n: u8, room: usize) -> Gate
     ensures { λ r. ⌜ gateAs r ≡ toGate (upAndRunning c (roomFor 4 room (numberIn n (take tt)))) ⌝ }
 {

@@ -1,4 +1,4 @@
-// What the calls share: their checks in order, what they give, and what a call that writes asks of one session.
+// What the calls share: their checks in order, their results, and the step of one session in a call that writes.
 mod gates;
 mod results;
 mod stepping;
@@ -14,7 +14,7 @@ pub use results::done;
 pub use results::refused;
 pub use stepping::take_step_in;
 
-// What the checks before a call's own come to.
+// The result of the checks that come before a call's own.
 pub enum Gate {
     Passed,
     Refused(Refusal),

@@ -1,4 +1,4 @@
-// What a call gives: refused, or done with so many bytes written.
+// The result of a call: refused, or done with a number of bytes written.
 use refusal::Refusal;
 use state::Answer;
 use state::Called;

@@ -1,4 +1,4 @@
-// What is asked of one session by a call that writes: the checks that such calls share, then what the session's step comes to.
+// A call that writes, on one session: the checks that such calls share, then the result of the session's step.
 use crate::Gate;
 use crate::gates::to_write_session;
 use crate::results::done;
@@ -18,7 +18,7 @@ ghost use Rattle.session.specs.Step.{steppedAs};
 ghost use Rattle.call_checks.specs.Deciding.{decision};
 ghost use Rattle.call_checks.specs.Stepped.{steppedIn};
 
-// A call that writes what the session sends.
+// The result of such a call after its checks: what the session sends is written.
 fn step_taken_in(c: Connection, n: u8, stepped: Stepped, room: &mut [u8]) -> Called
     requires { ⌜ 4 ≤ length (now room) ⌝ }
     ensures { λ r. ⌜ (calledAs r, now (room .exit)) ≡ inRoom c (now (room .entry)) (decision (setting-session c n (c .last) Judge·done) (steppedAs stepped)) ⌝ }
@@ -34,7 +34,7 @@ fn step_taken_in(c: Connection, n: u8, stepped: Stepped, room: &mut [u8]) -> Cal
     }
 }
 
-// What a call gives that asks a step of the session of a number.
+// The result of a call that takes a step of session n and writes.
 pub fn take_step_in(c: Connection, n: u8, stepped: Stepped, room: &mut [u8]) -> Called
     ensures { λ r. ⌜ (calledAs r, now (room .exit)) ≡ inRoom c (now (room .entry)) (steppedIn c n (length (now (room .entry))) (steppedAs stepped)) ⌝ }
 {

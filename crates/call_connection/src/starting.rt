@@ -57,7 +57,7 @@ fn is_outstanding(ping: Ping) -> bool
     }
 }
 
-// Writes a Ping, where none is outstanding.
+// Writes a Ping if none is outstanding.
 pub fn ping(c: Connection, cookie: u16, room: &mut [u8]) -> Called
     ensures { λ r. ⌜ (calledAs r, now (room .exit)) ≡ pingCall c cookie (now (room .entry)) ⌝ }
 {

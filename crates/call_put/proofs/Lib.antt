@@ -1,2 +1,2 @@
--- What a put gives, with the queue.
+-- The result of a put, with the queue.
 mod Queued

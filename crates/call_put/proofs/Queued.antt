@@ -1,4 +1,4 @@
--- What a put gives: where it is taken its bytes fit the slot, from the checks that it passed.
+-- The result of a put: if it is taken, its bytes fit the slot, from the checks that it passed.
 use mathlib.Core.Path.{_≡_, refl, ap, _∙_}
 use mathlib.Core.Bool.{true, false}
 use mathlib.Core.List.{List, []}
@@ -42,7 +42,7 @@ module _ (c : Connection) (n w : ℕ) (bytes queue : List ℕ) {x : Stepped} {re
       → (res, queue) ≡ putting c n w bytes queue (decision (setting-session c n (c .last) done) (steppedAs x))
   put-refused e g = rw (step-refused c n e g, e)
 
--- two queues that are the same wherever the rule takes
+-- two queues that are the same whenever the rule takes
 same-taken : (p : Plan Effect) (f g : Effect → List ℕ) (q : List ℕ) → Takes (λ e. f e ≡ g e) p → ifTaken (decided p) f q ≡ ifTaken (decided p) g q
 unfolding settle
 same-taken (stop n) f g q h = refl
@@ -50,7 +50,7 @@ same-taken (check true n p) f g q h = refl
 same-taken (check false n p) f g q h = same-taken p f g q (h refl)
 same-taken (take e) f g q h = h
 
--- the slot is served where the checks passed
+-- the slot is served if the checks passed
 served : (c : Connection) (n : ℕ) (bytes queue : List ℕ) → wellFormed c ≡ true → length queue ≡ queueSize → n < 128
     → length bytes ≤ slotSize - at c n .waiting
     → putInto queue n (at c n .waiting) bytes ≡ withSlot n (putSlot (at c n .waiting) bytes (slot n queue)) queue

@@ -1,2 +1,2 @@
--- The definition of what a put gives.
+-- The definition of the result of a put.
 pub mod Put

@@ -1,4 +1,4 @@
--- What a put gives from what it decides: the queue changes only where it is taken.
+-- The result of a put, from its decision: the queue changes only if the put is taken.
 use Prim.Native.Nat.{ℕ}
 use mathlib.Core.List.{List, []}
 use Rattle.state.specs.declared.Connection.{Connection}

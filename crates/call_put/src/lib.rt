@@ -30,7 +30,7 @@ fn to_put(c: Connection, n: u8, queue: usize) -> Gate
     further(queue_gate, 128 <= n, Refusal::NoSuchSession)
 }
 
-// The bytes go to the slot where the session takes them.
+// Puts the bytes into the slot if the session takes them.
 fn conclude_put(
     c: Connection,
     n: u8,
@@ -52,7 +52,7 @@ fn conclude_put(
     }
 }
 
-// Puts bytes behind those that wait for a session.
+// Puts bytes behind those that already wait for a session.
 pub fn put(c: Connection, n: u8, src: &[u8], queue: &mut [u8]) -> Called
     ensures { λ r. ⌜ (calledAs r, now (queue .exit)) ≡ putCall c n (now (src .entry)) (now (queue .entry)) ⌝ }
 {

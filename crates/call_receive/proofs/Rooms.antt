@@ -1,4 +1,4 @@
--- The room after a reply is written: every reply fits 12 bytes, and an Error stands behind our header.
+-- The room after a reply is written: every reply fits 12 bytes, and an Error follows our header.
 use mathlib.Core.Path.{_≡_, sym, ap, _∙_}
 use mathlib.Core.List.{List, [], _∷_, _++_, append-assoc, append-nil}
 use Prim.Native.Nat.{ℕ, _+_, _-_, _≤_}

@@ -1,4 +1,4 @@
--- What a receive gives behind its gate, from what the gate and the reading come to.
+-- The result of a receive behind its gate, from the results of the gate and the reading.
 use mathlib.Core.Path.{_≡_, refl, sym, ap, _∙_}
 use mathlib.Core.Bool.{true, false}
 use mathlib.Core.List.{List, []}
@@ -36,14 +36,14 @@ pub header-taken : (c : Connection) (r : Role) {h : ReadHeader} {far : ℕ} {nex
     → record { connection = next; answer = ok (header-received far); outs = outs } ≡ verdict c (headerTaken c r (headerReadAs h))
 header-taken c r {h} {far} e q o = rw (e, q ∙ sets-stage c (header-received far) (answering r (c .own)) (stage.Up r far), o)
 
--- what is read is what the stage has next
+-- what is read is what comes next at the stage
 pub staged : (c : Connection) (input : List ℕ) {v : Verdict} {s : Stage} → c .stage ≡ s → v ≡ verdict c (reading c input s)
     → v ≡ verdict c (reading c input (c .stage))
 staged c input e h = h ∙ sym (ap (λ (s : Stage). verdict c (reading c input s)) e)
 
 -- ---- the call
 
--- what a decision comes to gives what the decision gives
+-- the verdict of a decision gives what the decision gives
 same-given : (c : Connection) (room : List ℕ) (d : Decision) → replied (verdict c d) room ≡ inRoom c room d
 unfolding bytesOfAll
 same-given c room (refuse n) = refl

@@ -1,2 +1,2 @@
--- The definitions of what a receive gives from what it comes to.
+-- The definitions of the result of a receive, from its decision.
 pub mod Replied

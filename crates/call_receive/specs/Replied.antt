@@ -1,4 +1,4 @@
--- What a receive gives, with the room after it, from what it comes to: the bytes used, the payload's place and the bytes written.
+-- The result of a receive and the room after it, from its decision: the bytes used, the payload's place and the bytes written.
 use Prim.Native.Nat.{ℕ}
 use mathlib.Core.List.{List, []}
 use lib.ListN.{length}

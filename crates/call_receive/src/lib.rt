@@ -39,7 +39,7 @@ fn to_receive(c: Connection, room: usize) -> Gate
     further(started, room < 12, Refusal::WrongRoom)
 }
 
-// Takes the connection header or message that stands first in the input, and writes the reply to it.
+// Takes the connection header or message at the front of the input, and writes the reply to it.
 pub fn receive(c: Connection, input: &[u8], room: &mut [u8]) -> Called
     ensures { λ r. ⌜ (calledAs r, now (room .exit)) ≡ receiveCall c (now (input .entry)) (now (room .entry)) ⌝ }
 {

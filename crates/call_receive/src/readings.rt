@@ -1,4 +1,4 @@
-// What stands first in the input, as what the receive comes to: a connection header first, then messages.
+// The decision of a receive from the front of its input: a connection header first, then messages.
 use connection_judge::Judged;
 use connection_judge::Reply;
 use connection_judge::incomplete;
@@ -20,7 +20,7 @@ ghost use Rattle.wire_connection_header.specs.Answer.{headerReadAs};
 ghost use Rattle.wire_read.specs.Answer.{readAs};
 ghost use Rattle.connection_judge.specs.Verdict.{repliesAs, verdictAs, verdict};
 
-// A good first header makes a server write its own.
+// The reply to a good header: a server writes its own.
 fn answering(role: Role, own: u16) -> Reply
     ensures { λ r. ⌜ repliesAs r ≡ Call·answering role own ⌝ }
 {
@@ -30,7 +30,7 @@ fn answering(role: Role, own: u16) -> Reply
     }
 }
 
-// A header that is read: the headers are exchanged with it.
+// The decision on a header that was read; after a good one the headers are exchanged.
 fn take_header(c: Connection, role: Role, header: ReadHeader) -> Judged
     ensures { λ r. ⌜ verdictAs r ≡ verdict c (headerTaken c role (headerReadAs header)) ⌝ }
 {
@@ -49,7 +49,7 @@ fn take_header(c: Connection, role: Role, header: ReadHeader) -> Judged
     }
 }
 
-// A message that is read is judged.
+// The decision on a message that was read.
 fn take_message(c: Connection, message: Read) -> Judged
     ensures { λ r. ⌜ verdictAs r ≡ verdict c (messageTaken c (readAs message)) ⌝ }
 {
@@ -69,7 +69,7 @@ fn other_end(role: Role) -> Role
     }
 }
 
-// Reads what the stage of the connection has next.
+// Reads what comes next at this stage of the connection, a header or a message, and decides.
 pub(crate) fn decide(c: Connection, input: &[u8]) -> Judged
     ensures { λ r. ⌜ verdictAs r ≡ verdict c (reading c (now (input .entry)) (c .stage)) ⌝ }
 {

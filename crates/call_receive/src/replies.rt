@@ -1,4 +1,4 @@
-// What a receive gives: the reply is written, and the bytes used and the place of the payload follow from the answer.
+// The result of a receive: the reply is written, and the bytes used and the place of the payload follow from the answer.
 use connection_judge::Judged;
 use connection_judge::Reply;
 use connection_judge::extent_of;
@@ -28,7 +28,7 @@ fn write_header_error(own: u16, room: &mut [u8]) -> usize
     12
 }
 
-// Writes the reply and answers how many bytes it is.
+// Writes the reply and returns how many bytes it has.
 fn write_reply(reply: Reply, room: &mut [u8]) -> usize
     requires { ⌜ 12 ≤ length (now room) ⌝ }
     ensures { λ r. ⌜ (r, now (room .exit)) ≡ atFront (bytesOfAll [] (repliesAs reply)) (now (room .entry)) ⌝ }
@@ -39,7 +39,7 @@ fn write_reply(reply: Reply, room: &mut [u8]) -> usize
     }
 }
 
-// What the call gives, once its reply is written.
+// Writes the reply, and returns the result of the call.
 pub(crate) fn replied(judged: Judged, room: &mut [u8]) -> Called
     requires { ⌜ 12 ≤ length (now room) ⌝ }
     ensures { λ r. ⌜ (calledAs r, now (room .exit)) ≡ Replied·replied (verdictAs judged) (now (room .entry)) ⌝ }

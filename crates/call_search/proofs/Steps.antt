@@ -1,4 +1,4 @@
--- The nearest number step by step: the search over what is left, and that over all 128 it is the nearest one found.
+-- The nearest number, step by step: the search over the numbers that are left; over all 128 it finds the nearest one.
 use mathlib.Core.Path.{_≡_, refl, sym}
 use mathlib.Core.Bool.{Bool, true, false}
 use mathlib.Core.List.{List, [], _∷_}
@@ -13,7 +13,7 @@ use Rattle.call_search.specs.declared.Found.{Found}
 use Rattle.call_search.specs.declared.Found.the-variants as found
 use Rattle.call_search.specs.Flags.{nearestFound}
 
--- what the next k numbers after i hold
+-- what is found among the next k numbers after i
 pub searched : (ℕ → Bool) → ℕ → ℕ → Found
 searched test i zero = found.Nothing
 searched test i (suc k) = pick (test (following i)) (found.At (following i)) (searched test (following i) k)

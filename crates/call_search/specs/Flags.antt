@@ -1,4 +1,4 @@
--- A flag is 1 where it is set, and the nearest one is found going round the 128 numbers.
+-- A flag is 1 if it is set, and the nearest one is found going round the 128 numbers.
 use Prim.Native.Nat.{ℕ}
 use mathlib.Core.Bool.{Bool}
 use mathlib.Core.List.{List}
@@ -12,7 +12,7 @@ use Rattle.call_search.specs.declared.Found.the-variants as found
 abbrev pub isSet : List ℕ → ℕ → Bool
 isSet flags n = eqb (getD flags n 0) 1
 
--- the nearest number after i that passes the test, or nothing where none does
+-- the nearest number after i that passes the test, or nothing if none does
 unfoldable pub nearestFound : (ℕ → Bool) → ℕ → Found
 nearestFound test i = pick (test (nearest test i)) (found.At (nearest test i)) found.Nothing
 

@@ -16,7 +16,7 @@ fn following(i: u8) -> u8
     (((i as u16) + 1) % 128) as u8
 }
 
-// Whether the flag of a number is set; a number past the flags has none.
+// Whether the flag of a number is set; a number past the flags has no flag.
 fn is_set(flags: &[u8], n: u8) -> bool
     ensures { λ r. ⌜ r ≡ isSet (now (flags .entry)) n ⌝ }
 {
@@ -27,7 +27,7 @@ fn is_set(flags: &[u8], n: u8) -> bool
     false
 }
 
-// The nearest number after `last` whose flag is set, `last` itself last, or none.
+// The nearest number after `last` whose flag is set, with `last` itself checked last; nothing if no flag is set.
 pub fn nearest_set(flags: &[u8], last: u8) -> Found
     ensures { λ r. ⌜ r ≡ nearestSet (now (flags .entry)) last ⌝ }
 {

@@ -8,7 +8,7 @@ use state::Connection;
 ghost use mathlib.Core.Path.{_≡_};
 ghost use Rattle.protocol.specs.Result.{calledAs, openCall, finishCall};
 
-// Opens a session of a client's.
+// Opens a session; only a client may.
 pub fn open_session(c: Connection, n: u8) -> Called
     ensures { λ r. ⌜ calledAs r ≡ openCall c n ⌝ }
 {
@@ -17,7 +17,7 @@ pub fn open_session(c: Connection, n: u8) -> Called
     take_step(c, n, stepped)
 }
 
-// Asks for the end of our side, after the bytes that wait.
+// Asks for the end of our side, after the waiting bytes.
 pub fn finish(c: Connection, n: u8) -> Called
     ensures { λ r. ⌜ calledAs r ≡ finishCall c n ⌝ }
 {

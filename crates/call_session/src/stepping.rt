@@ -1,4 +1,4 @@
-// What is asked of a session, as what the call gives.
+// A call that writes nothing, on one session: its checks, then the result of the session's step.
 use call_checks::Gate;
 use call_checks::done;
 use call_checks::refused;
@@ -16,7 +16,7 @@ ghost use Rattle.protocol.specs.Plan.{take};
 ghost use Rattle.protocol.specs.Call.{upAndRunning, numberIn};
 ghost use Rattle.call_checks.specs.Deciding.{Quiet, decision, afterChecks};
 
-// A call that writes nothing.
+// The result of such a call after its checks.
 fn step_taken(c: Connection, n: u8, stepped: Stepped) -> Called
     requires { ⌜ Quiet (steppedAs stepped) ⌝ }
     ensures { λ r. ⌜ calledAs r ≡ given c [] (decision (setting-session c n (c .last) Judge·done) (steppedAs stepped)) ⌝ }
@@ -30,7 +30,7 @@ fn step_taken(c: Connection, n: u8, stepped: Stepped) -> Called
     }
 }
 
-// What a call gives that asks a step of the session of a number.
+// The result of a call that takes a step of session n and writes nothing.
 pub(crate) fn take_step(c: Connection, n: u8, stepped: Stepped) -> Called
     requires { ⌜ Quiet (steppedAs stepped) ⌝ }
     ensures { λ r. ⌜ calledAs r ≡ given c [] (afterChecks (upAndRunning c (numberIn n (take tt))) (setting-session c n (c .last) Judge·done) (steppedAs stepped)) ⌝ }

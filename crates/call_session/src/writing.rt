@@ -24,7 +24,7 @@ pub fn abort(c: Connection, n: u8, partial: bool, room: &mut [u8]) -> Called
     take_step_in(c, n, stepped, room)
 }
 
-// Closes a session of a server's.
+// Closes a session; only a server may.
 pub fn close(c: Connection, n: u8, room: &mut [u8]) -> Called
     ensures { λ r. ⌜ (calledAs r, now (room .exit)) ≡ closeCall c n (now (room .entry)) ⌝ }
 {

@@ -65,7 +65,7 @@ module _ (a : ℕ) (l : List ℕ) where
       let none : drop (length l - a) (drop a l) ≡ [] = drop-of-length-le (drop a l) long in
       ap (λ (r : List ℕ). take a l ++ (p ++ r)) none ∙ ap (λ (r : List ℕ). take a l ++ r) (append-nil p)
 
--- what stands first stays, and the rest of the slot is zeroed
+-- the first bytes stay, and the rest of the slot is zeroed
 cleared : (front rest : List ℕ) (e : ℕ) {l p : List ℕ} → l ≡ front ++ rest → length front ≡ e → length l ≡ slotSize
     → p ≡ replicate (length (take (length l - e) (drop e l))) 0 → putMid e (length l - e) l p ≡ padded front
 cleared front rest e {l} {p} is long whole zero =

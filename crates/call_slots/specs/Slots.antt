@@ -1,4 +1,4 @@
--- The queue after a put and after a turn, where the slot can be served; else the queue as it was.
+-- The queue after a put and after a turn, if the slot can be served; otherwise the queue as it was.
 use Prim.Native.Nat.{ℕ, _-_}
 use mathlib.Core.Bool.{Bool, _&&_}
 use mathlib.Core.List.{List}
@@ -8,7 +8,7 @@ use Rattle.laws.specs.Pick.{pick}
 use Rattle.protocol.specs.Slot.{slotSize, queueSize}
 use Rattle.protocol.specs.Queue.{slot, withSlot, putSlot, turnSlot}
 
--- the queue has its length, the number is one, and no more waits than a slot holds
+-- the queue has its length, the number is a session number, and no more bytes wait than a slot holds
 abbrev pub servable : ℕ → ℕ → ℕ → Bool
 servable queue n waiting = eqb queue queueSize && ltb n 128 && leb waiting slotSize
 

@@ -14,7 +14,7 @@ ghost use Rattle.call_slots.specs.Slots.{servable, putInto, takenFrom};
 // How long the queue is: a slot for each session number.
 pub const QUEUE_SIZE: usize = 128 * (SLOT_SIZE as usize);
 
-// Whether the queue has its length, the number is one, and no more waits than a slot holds.
+// Whether the queue has its length, the number is a session number, and no more bytes wait than a slot holds.
 fn is_servable(queue: usize, n: u8, waiting: u16) -> bool
     ensures { λ r. ⌜ r ≡ servable queue n waiting ⌝ }
     ensures { λ _. do ⌜ (← ⟦QUEUE_SIZE⟧ .entry) ≡ queueSize ⌝ }
@@ -25,7 +25,7 @@ fn is_servable(queue: usize, n: u8, waiting: u16) -> bool
     whole & numbered & within
 }
 
-// Puts bytes behind those that wait, and zeroes the rest of the slot; bytes that do not fit leave the queue as it is.
+// Puts bytes behind those that wait, and zeroes the rest of the slot; if they do not fit, the queue stays as it is.
 pub fn put_into(queue: &mut [u8], n: u8, waiting: u16, src: &[u8])
     ensures { λ _. ⌜ now (queue .exit) ≡ putInto (now (queue .entry)) n waiting (now (src .entry)) ⌝ }
 {

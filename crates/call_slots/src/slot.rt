@@ -6,7 +6,7 @@ ghost use lib.ListN.{length, take, drop, replicate};
 ghost use Rattle.protocol.specs.Slot.{slotSize};
 ghost use Rattle.protocol.specs.Queue.{putSlot, turnSlot};
 
-// Zeroes all of a part.
+// Zeroes every byte of a part.
 fn clear(part: &mut [u8])
     ensures { λ _. ⌜ now (part .exit) ≡ replicate (length (now (part .entry))) 0 ⌝ }
 {
@@ -27,7 +27,7 @@ pub(crate) fn put_behind(slot: &mut [u8], waiting: usize, src: &[u8])
     clear(&mut slot[end..]);
 }
 
-// Moves bytes to the front, from n bytes further on.
+// Moves `count` bytes from index n to the front.
 fn move_down(slot: &mut [u8], n: usize, count: usize)
     requires { ⌜ n + count ≤ length (now slot) ⌝ }
     ensures { λ _. ⌜ now (slot .exit) ≡ take count (drop n (now (slot .entry))) ++ drop count (now (slot .entry)) ⌝ }

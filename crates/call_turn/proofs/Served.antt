@@ -1,4 +1,4 @@
--- What a turn gives: the message of the number that is served with the first bytes of its slot, and the slot without them.
+-- The result of a turn: the message of the number that is served, with the first bytes of its slot, and the slot without them.
 use mathlib.Core.Path.{_≡_, sym, ap, _∙_}
 use mathlib.Core.Bool.{true, false}
 use mathlib.Core.List.{List, [], _∷_, map}

@@ -1,4 +1,4 @@
--- The whole of a turn, from its gate and from what the search finds.
+-- A whole turn, from its gate and from what the search finds.
 use mathlib.Core.Path.{_≡_, sym, ap, _∙_}
 use mathlib.Core.Bool.{true, false}
 use mathlib.Core.List.{List, []}
@@ -29,7 +29,7 @@ last-below : (c : Connection) → wellFormed c ≡ true → c .last < 128
 unfolding wellFormed
 last-below c e = ltb-true _ _ (and-first (ltb (c .last) 128) (allFormed (roleOf (c .stage)) (exchanged (c .stage)) (c .sessions)) e)
 
--- the number that is served is one, and no more waits for it than a slot holds
+-- the number that is served is a session number, and no more bytes wait for it than a slot holds
 pub next-number : (c : Connection) {n : ℕ} → wellFormed c ≡ true → n ≡ nextReady c → n < 128
 next-number c e q = rw q (nearest-lt (λ n. readySession (at c n)) (c .last) (last-below c e))
 

@@ -1,3 +1,3 @@
--- The definitions of the ready flags and of what a turn gives.
+-- The definitions of the ready flags and of the result of a turn.
 pub mod Ready
 pub mod Turned

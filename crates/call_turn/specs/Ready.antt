@@ -1,4 +1,4 @@
--- The flag of a session: 1 where it is ready.
+-- The flag of a session: 1 if it is ready.
 use Prim.Native.Nat.{ℕ}
 use Rattle.laws.specs.Pick.{pick}
 use Rattle.state.specs.declared.Session.{Session}

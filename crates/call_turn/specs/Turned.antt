@@ -1,4 +1,4 @@
--- What a turn gives from what it decides: the call's result, the queue and the room.
+-- The result of a turn, from its decision: what the call gives, the queue and the room.
 use Prim.Native.Nat.{ℕ, _≤_}
 use mathlib.Core.List.{List}
 use Rattle.state.specs.declared.Session.{Session}
@@ -10,7 +10,7 @@ use Rattle.protocol.specs.Judge.{Decision}
 use Rattle.laws.specs.Room.{overlaid}
 use Rattle.protocol.specs.Result.{Given, given, ifTaken, turned, turnPayload, writtenBy}
 
--- the number that is served gets another session and is served last
+-- the connection with another session for the number that is served, which is now the number served last
 abbrev pub withServed : Connection → ℕ → Session → Connection
 withServed c n x = withLast n (withSession n x c)
 

@@ -26,7 +26,7 @@ ghost use Rattle.session.specs.Step.{steppedAs};
 ghost use Rattle.call_checks.specs.Deciding.{decision};
 ghost use Rattle.call_turn.specs.Turned.{withServed, Shrinks, turnGives};
 
-// The connection with another session for the number that is served, and that number served last.
+// The connection with another session for number n, and n as the number served last.
 fn with_served(c: Connection, n: u8, x: Session) -> Connection
     ensures { λ r. ⌜ r ≡ withServed c n x ⌝ }
 {
@@ -49,7 +49,7 @@ fn reported(c: Connection, n: u8, wrote: usize) -> Called
     }
 }
 
-// How many bytes fewer wait.
+// How many fewer bytes wait.
 fn fewer(before: u16, after: u16) -> u16
     requires { ⌜ after ≤ before ⌝ }
     ensures { λ r. ⌜ r ≡ before - after ⌝ }
@@ -57,7 +57,7 @@ fn fewer(before: u16, after: u16) -> u16
     before - after
 }
 
-// The message is written with the first bytes of the slot, and then they leave the slot.
+// Writes the message with the first bytes of the slot, and then removes them from the slot.
 fn conclude_turn(
     c: Connection,
     n: u8,

@@ -1,5 +1,5 @@
 -- What the functions that make a reader in a local and lend it to `Reader::next` share: the local as a reader that can be
--- lent, and back; what `next` is passed, asks and ensures; and the step that is made of its answer and the reader's last place.
+-- lent, and back; what `next` is passed, requires and ensures; and the step that is made of its answer and the reader's last place.
 use mathlib.Core.Path.{_≡_, refl, ap, _∙_}
 use Prim.Native.Nat.{ℕ, _<_, _^_}
 use mathlib.Core.List.{List, [], _∷_}

@@ -1,4 +1,4 @@
--- Where a reader stands: at place 8 first, at the same place after a refusal or a violation, and always on the same capture.
+-- The place of a reader: 8 at first, the same place after a refusal or a violation, and always on the same capture.
 use mathlib.Core.Path.{_≡_, refl}
 use mathlib.Core.List.{List}
 use Prim.Native.Nat.{ℕ}

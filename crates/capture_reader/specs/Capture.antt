@@ -8,7 +8,7 @@ use Rattle.wire.specs.declared.Message.{Message}
 use Rattle.capture_rules.specs.Place.{messageAt, placeAfter}
 use Rattle.capture_reader.specs.declared.Reader.{Reader}
 
--- place 8 is the first message
+-- the first message is at place 8
 abbrev pub firstPlace : ℕ
 firstPlace = 8
 
@@ -16,7 +16,7 @@ firstPlace = 8
 abbrev pub readerAtFirst : RefT (List ℕ) → Reader
 readerAtFirst capture = record { capture = capture; place = firstPlace }
 
--- what stands at a reader's place, and the reader at the place to read on from
+-- what is at a reader's place, and the reader at the place to read on from
 abbrev pub advanced : Role → Reader → Result Message × Reader
 advanced from r = (
   messageAt from (now (r .capture)) (r .place),

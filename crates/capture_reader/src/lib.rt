@@ -1,4 +1,4 @@
-// The reader of captures, which keeps hold of a capture's bytes and of its place in them.
+// The reader of captures, which keeps a capture's bytes and its own place in them.
 use capture_rules::Next;
 use capture_rules::Step;
 use capture_step::next_at;
@@ -27,7 +27,7 @@ impl<'a> Reader<'a> {
         }
     }
 
-    // What stands at the reader's place, for a sender; the reader moves past a message, and a refusal keeps its place.
+    // What is at the reader's place, from this sender; the reader moves past a message, and stays at its place after a refusal.
     pub fn next(&mut self, from: Role) -> Next
         ensures { λ r. ⌜ (nextAs r, now (self .exit)) ≡ advanced from (now (self .entry)) ⌝ }
     {
@@ -37,7 +37,7 @@ impl<'a> Reader<'a> {
     }
 }
 
-// What a reader of a capture finds first, for a sender, and the place to read on from.
+// What a reader finds first in a capture, from this sender, and the place to read on from.
 pub fn read_first(capture: &[u8], from: Role) -> Step
     ensures { λ r. ⌜ stepAs r ≡ stepAt from (now (capture .entry)) firstPlace ⌝ }
 {
@@ -49,7 +49,7 @@ pub fn read_first(capture: &[u8], from: Role) -> Step
     }
 }
 
-// What a reader of a capture finds at a place, for a sender, and the place to read on from.
+// What a reader finds at a place of a capture, from this sender, and the place to read on from.
 pub fn read_at(capture: &[u8], from: Role, place: usize) -> Step
     ensures { λ r. ⌜ stepAs r ≡ stepAt from (now (capture .entry)) place ⌝ }
 {

@@ -103,7 +103,7 @@ module _ (from : Role) (s : List ℕ) (bytes : Bytes s) where
   abbrev Enough : ℕ → Type 0
   Enough n = (place : ℕ) → length s ≤ place + n → Exact from s place (readUpTo n from s place)
 
-  -- so many messages are enough where no more bytes than that are left
+  -- n messages are enough if at most n bytes are left
   up-to-exact : (n : ℕ) → Enough n
   unfolding readUpTo
   up-to-exact zero place h = none place (λ m e. let l = stands from s place m e .long in omega arith)
@@ -140,7 +140,7 @@ module _ (from : Role) (s : List ℕ) where
         let all = ap length apart ∙ length-append (header m) (w .body ++ behind) in
         omega (arith, all, length-append (w .body) behind, length-drop place s)
 
-    -- the message stands there
+    -- the message is there
     stands-there : ok m ≡ messageAt from s place
     stands-there =
         let l = long in
@@ -159,7 +159,7 @@ module _ (from : Role) (s : List ℕ) where
         ∙ ap (λ (l : List ℕ). take (bodyLength m) (drop 4 l)) (sym apart)
         ∙ ap (take (bodyLength m)) (drop-drop 4 place s))
 
-    -- and the others stand after it
+    -- and the others follow it
     next-same : drop (place + 4 + bodyLength m) s ≡ behind
     next-same =
         let sum : place + 4 + bodyLength m ≡ place + (4 + length (w .body)) = omega (arith, body-same) in
@@ -183,7 +183,7 @@ module _ (from : Role) (s : List ℕ) where
       go (refused i) e = refl
       go (violation i) e = refl
 
-  -- messages that are written one after the other from a place on, up to an end where none stands, are what is read
+  -- messages that are written one after the other from a place on, up to an end where there is none, are what is read
   up-to-only : (ws : List WholeMessage) (n place end : ℕ) (tail : List ℕ) → length s ≤ place + n → EachWritable from ws
       → drop place s ≡ wholeBytes ws ++ tail → end ≡ place + length (wholeBytes ws) → ((m : Message) → messageAt from s end ≡ ok m → ⊥)
       → record { messages = ws; end = end } ≡ readUpTo n from s place

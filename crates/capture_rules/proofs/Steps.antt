@@ -22,7 +22,7 @@ module _ (from : Role) (s : List ℕ) (place : ℕ) where
   unfolding messageAt
   within h = sym (no _ _ _ (le-ltb _ _ h))
 
-  -- the same of the slice that starts at the place
+  -- the same for the slice that starts at the place
   pub in-slice : {r : Result Message} → place ≤ length s → r ≡ readMessage from (take (length s - place) (drop place s)) → r ≡ messageAt from s place
   in-slice h e =
       let all : take (length s - place) (drop place s) ≡ drop place s = take-all (length s - place) (drop place s) (simp length-drop (omega arith)) in

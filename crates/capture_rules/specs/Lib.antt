@@ -1,3 +1,3 @@
--- The definitions of what stands at the places of a capture.
+-- The definitions of what is at the places of a capture.
 pub mod Place
 pub mod Reading

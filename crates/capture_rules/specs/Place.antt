@@ -1,4 +1,4 @@
--- What stands at a place of a capture, and the place to read on from.
+-- What is at a place of a capture, and the place to read on from.
 use Prim.Native.Nat.{ℕ, _+_}
 use mathlib.Core.List.{List}
 use lib.ListN.{length, drop}
@@ -13,7 +13,7 @@ use Rattle.capture_rules.specs.declared.Next.{Next}
 use Rattle.capture_rules.specs.declared.Next.the-variants as next
 use Rattle.capture_rules.specs.declared.Step.{Step}
 
--- 14 for a place past the end, else what the message reader says of the bytes from there on
+-- 14 for a place past the end, else what the message reader says about the bytes from there on
 unfoldable pub messageAt : Role → List ℕ → ℕ → Result Message
 messageAt from capture place = pick (ltb (length capture) place) (refused 14) (readMessage from (drop place capture))
 
@@ -23,7 +23,7 @@ placeAfter place (ok m) = place + 4 + bodyLength m
 placeAfter place (refused n) = place
 placeAfter place (violation n) = place
 
--- what stands at a place, and the place to read on from
+-- what is at a place, and the place to read on from
 unfoldable pub stepAt : Role → List ℕ → ℕ → Result Message × ℕ
 stepAt from capture place = (messageAt from capture place, placeAfter place (messageAt from capture place))
 

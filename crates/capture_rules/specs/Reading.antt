@@ -29,13 +29,13 @@ pub record MessagesRead : Type 0 where
 abbrev pub wholeAt : List ℕ → ℕ → Message → WholeMessage
 wholeAt capture place m = record { message = m; body = take (bodyLength m) (drop (place + 4) capture) }
 
--- a message stands before what is read after it, and a refusal ends the reading
+-- a message comes before what is read after it, and a refusal ends the reading
 abbrev pub prepended : List ℕ → ℕ → Result Message → MessagesRead → MessagesRead
 prepended capture place (ok m) rest = record { messages = wholeAt capture place m ∷ rest .messages; end = rest .end }
 prepended capture place (refused n) rest = record { messages = []; end = place }
 prepended capture place (violation n) rest = record { messages = []; end = place }
 
--- reading from a place: no message past a refusal, and no more than so many
+-- reading from a place: no message past a refusal, and at most this many messages
 unfoldable pub readUpTo : ℕ → Role → List ℕ → ℕ → MessagesRead
 readUpTo zero from capture place = record { messages = []; end = place }
 readUpTo (suc n) from capture place =
@@ -54,7 +54,7 @@ EachWritable from [] = Unit {0}
 EachWritable from (w ∷ ws) =
     (numberOf (w .message) < 65_536) × (writable from (w .message) (length (w .body)) ≡ true) × EachWritable from ws
 
--- the messages' bytes, one after the other, are the capture's from the place up to the end, and there no message stands
+-- the messages' bytes, one after the other, are the capture's bytes from the place up to the end, and no message is at the end
 pub record Exact (from : Role) (s : List ℕ) (place : ℕ) (r : MessagesRead) : Type 0 where
   pub each : EachWritable from (r .messages)
   pub bytes : wholeBytes (r .messages) ≡ take (r .end - place) (drop place s)

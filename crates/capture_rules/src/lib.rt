@@ -1,4 +1,4 @@
-// What may stand at a place of a capture, and the place to read on from.
+// What may be at a place of a capture, and the place to read on from.
 use refusal::Refusal;
 use refusal::Violation;
 use wire::Message;
@@ -10,7 +10,7 @@ pub enum Next {
     Violated(Violation),
 }
 
-// What stands at a place, and the place to read on from: after a message, and the same for a refusal.
+// What is at a place, and the place to read on from: behind a message, or the same place after a refusal.
 pub struct Step {
     pub next: Next,
     pub place: usize,

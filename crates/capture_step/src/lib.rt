@@ -1,4 +1,4 @@
-// The message that stands at a place of a capture, and the place to read on from.
+// The message at a place of a capture, and the place to read on from.
 use capture_rules::Next;
 use capture_rules::Step;
 use refusal::Refusal;
@@ -13,7 +13,7 @@ ghost use Rattle.laws.specs.Result.{ok, refused};
 ghost use Rattle.wire_read.specs.Answer.{readAs};
 ghost use Rattle.capture_rules.specs.Place.{placeAfter, stepAt, nextAs, stepAs};
 
-// A refusal or a violation at a place, which it keeps.
+// A refusal or a violation at a place; the place stays the same.
 fn kept(next: Next, place: usize) -> Step
     ensures { λ r. ⌜ stepAs r ≡ (nextAs next, place) ⌝ }
 {
@@ -50,7 +50,7 @@ fn step_of(read: Read, place: usize) -> Step
     }
 }
 
-// The message from a sender that stands at a place, and the place after it.
+// The message from a sender at a place, and the place after it.
 pub fn next_at(capture: &[u8], from: Role, place: usize) -> Step
     ensures { λ r. ⌜ stepAs r ≡ stepAt from (now (capture .entry)) place ⌝ }
 {

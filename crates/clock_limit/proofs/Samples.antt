@@ -1,4 +1,4 @@
--- A clock just made is sound after any list of samples; from the laws that a good clock stays good and that what is held lies between.
+-- A clock just made is sound after any list of samples; from the laws that a good clock stays good and that what is held is between.
 use mathlib.Core.Path.{_≡_}
 use mathlib.Core.Bool.{true, _&&_}
 use mathlib.Core.List.{List, [], _∷_}

@@ -17,7 +17,7 @@ unfoldable pub clockAfter : Clock → List ℕ → Clock
 clockAfter clock [] = clock
 clockAfter clock (R ∷ Rs) = clockAfter (sampleRule clock R .1) Rs
 
--- no good sample and no good setting is refused, and a measured limit lies between floor and ceiling
+-- no good sample and no good setting is refused, and a measured limit is between floor and ceiling
 pub record Sound (clock : Clock) : Type 0 where
   pub takes : (R : ℕ) → goodSample R ≡ true → sampleRule clock R ≡ (ok tt, updated clock (wholeNumber R))
   pub limits : (setting : Setting) → goodSetting setting ≡ true → limitRule clock setting ≡ ok (limitUnder setting clock)

@@ -27,7 +27,7 @@ abbrev pub limitUnder : Setting → Clock → Float
 limitUnder (Fixed limit) clock = limit
 limitUnder (Measured floor ceiling) clock = held floor ceiling (measured clock)
 
--- state and setting are judged whatever the setting is, and whether or not a sample has come
+-- state and setting are both checked, whatever the setting is, and whether or not a sample has come
 unfoldable pub limitRule : Clock → Setting → Result Float
 limitRule clock setting = pick (goodClock clock && goodSetting setting) (ok (limitUnder setting clock)) (refused 12)
 

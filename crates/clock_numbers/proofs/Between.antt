@@ -1,4 +1,4 @@
--- What is held between a floor and a ceiling lies between them, whatever it is, NaN too; from the definition of `held`.
+-- What is held between a floor and a ceiling is between them, whatever it is, NaN too; from the definition of `held`.
 use mathlib.Core.Path.{_≡_, refl, sym, _∙_}
 use mathlib.Core.Bool.{Bool, true, false, _||_, false≢true}
 use lib.Ieee.{Float, nan, inf, fin, lt, le, eq, ne}

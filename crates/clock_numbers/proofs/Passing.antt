@@ -1,4 +1,4 @@
--- The numbers that pass the test for 0 to 60,000 are those up to 60,000, -0 with them; from the definition of `within`.
+-- The numbers that pass the test for 0 to 60,000 are those up to 60,000, with -0 among them; from the definition of `within`.
 use mathlib.Core.Path.{_≡_, refl, sym, _∙_}
 use mathlib.Core.Bool.{true, false}
 use mathlib.Core.Logic.{inl, inr}
@@ -15,7 +15,7 @@ use Rattle.laws.proofs.Tests.{T-first, T-second}
 use Rattle.clock_numbers.specs.Arithmetic.{wholeNumber, within}
 use Rattle.clock_numbers.proofs.Range.{UpTo, up-to, below-whole}
 
--- m is 0 where m * 2 ^ e is
+-- m is 0 if m * 2 ^ e is
 zero-digits : (m : ℕ) (e : ℤ) → m * up e ≡ 0 → m ≡ 0
 zero-digits m e z = elim (eq-zero-or-pos m) [ inl p ↦ p | inr q ↦ (let w = mul-pos q (up-pos e) in absurd (omega arith)) ]
 

@@ -37,7 +37,7 @@ unfoldable pub 0·875 : Float
 unfoldable pub 0·125 : Float
 0·125 = wholeNumber 1 ⊘ wholeNumber 8
 
--- x is a number from low to high: NaN is none, and -0 counts as 0
+-- x is a number from low to high: NaN is not, and -0 counts as 0
 abbrev pub within : ℕ → ℕ → Float → Bool
 within low high x = le (wholeNumber low) x && le x (wholeNumber high)
 
@@ -47,7 +47,7 @@ larger x y = pick (lt x y) y x
 abbrev pub smaller : Float → Float → Float
 smaller x y = pick (lt y x) y x
 
--- the smaller subtracted from the larger; x from y where they are equal, so that the distance of -0 and a sample of 0 is 0
+-- the smaller subtracted from the larger; x from y if they are equal, so that the distance of -0 and a sample of 0 is 0
 abbrev pub distance : Float → Float → Float
 distance x y = pick (lt y x) (x ⊖ y) (y ⊖ x)
 
@@ -55,6 +55,6 @@ distance x y = pick (lt y x) (x ⊖ y) (y ⊖ x)
 abbrev pub held : Float → Float → Float → Float
 held floor ceiling x = smaller ceiling (larger floor x)
 
--- x lies between floor and ceiling
+-- x is between floor and ceiling
 abbrev pub Between : Float → Float → Float → Type 0
 Between floor ceiling x = (le floor x ≡ true) × (le x ceiling ≡ true)

@@ -1,4 +1,4 @@
-// Numbers of binary64: whether one is in a range, the larger and the smaller of two, how far two are apart, and one held between two.
+// Numbers of binary64: whether one is in a range, the larger and the smaller of two, the distance of two, and one held between two.
 ghost use mathlib.Core.Path.{_≡_};
 ghost use mathlib.Core.Bool.{_&&_};
 ghost use lib.Ieee.{le};

@@ -38,7 +38,7 @@ refused-leaves clock R n e = go (goodClock clock && goodSample R) e
     go true q = absurd (refused-not-ok (sym q))
     go false q = (sym (refused-same q), refl)
 
--- ---- of a clock just made
+-- ---- for a clock just made
 
 pub takes-0 : sampleRule newClock 0 ≡ (ok tt, record { sampled = true; smoothed = wholeNumber 0; deviation = wholeNumber 0 })
 unfolding pick newClock first updated goodClock sampleRule wholeNumber ofInt div lt le
@@ -52,7 +52,7 @@ pub refuses-60001 : sampleRule newClock 60_001 ≡ (refused 12, newClock)
 unfolding pick newClock goodClock sampleRule wholeNumber ofInt lt le
 refuses-60001 = refl
 
--- a state is good where both its numbers are from 0 to 60,000
+-- a state is good if both its numbers are from 0 to 60,000
 pub good-up-to-60000 : (clock : Clock)
     → goodClock clock
     ≡ ((le (wholeNumber 0) (clock .smoothed) && le (clock .smoothed) (wholeNumber 60_000))

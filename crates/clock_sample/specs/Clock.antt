@@ -1,4 +1,4 @@
--- The ping clock and what a sample R makes of it. The smoothed time and the deviation are in milliseconds.
+-- The ping clock, and how a sample R changes it. The smoothed time and the deviation are in milliseconds.
 use Prim.Native.Nat.{ℕ}
 use mathlib.Core.Bool.{Bool, true, false, _&&_}
 use lib.Dec.{leb}
@@ -32,7 +32,7 @@ later clock R = record {
 unfoldable pub updated : Clock → Float → Clock
 updated clock R = pick (clock .sampled) (later clock R) (first R)
 
--- a state with NaN or a number outside 0 to 60,000 is bad, and so is a sample outside
+-- a state with NaN or a number outside 0 to 60,000 is bad, and so is a sample outside that range
 unfoldable pub goodClock : Clock → Bool
 goodClock clock = within 0 60_000 (clock .smoothed) && within 0 60_000 (clock .deviation)
 

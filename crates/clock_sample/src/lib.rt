@@ -16,7 +16,7 @@ pub struct Clock {
     pub deviation: f64,
 }
 
-// What is answered to a sample.
+// The answer to a sample.
 pub enum SampleAnswer {
     Taken,
     // The clock's state or the sample is out of its range.
@@ -61,7 +61,7 @@ impl Clock {
         }
     }
 
-    // The clock after a later sample. The deviation comes first: it reads the smoothed time as it stood.
+    // The clock after a later sample. The deviation is computed first, because it needs the smoothed time from before the sample.
     fn later(mut self, r: f64) -> Clock
         ensures { λ c. ⌜ c ≡ later self r ⌝ }
     {
@@ -82,7 +82,7 @@ impl Clock {
         }
     }
 
-    // The by-value update: what a sample, in milliseconds, makes of the clock.
+    // The update by value: the answer to a sample in milliseconds, and the clock after it.
     pub fn update(self, sample: u32) -> Update
         ensures { λ u. ⌜ updateResult u ≡ sampleRule self sample ⌝ }
     {

@@ -5,7 +5,7 @@ use crate::Update;
 ghost use mathlib.Core.Path.{_≡_};
 ghost use Rattle.clock_sample.specs.Clock.{sampleRule, outcomeResult, updateResult};
 
-// The sampler: the clock is lent, and changed in place.
+// Takes a sample into a clock that is lent and changed in place.
 pub fn take_sample(clock: &mut Clock, sample: u32) -> SampleAnswer
     ensures { λ r. ⌜ (outcomeResult r, now (clock .exit)) ≡ sampleRule (now (clock .entry)) sample ⌝ }
 {

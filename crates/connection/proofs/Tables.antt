@@ -38,7 +38,7 @@ module _ {A : Type 0} (f : A → A) where
   upTo-end [] = refl
   upTo-end (x ∷ l) = ap (λ (r : List A). f x ∷ r) (upTo-end l)
 
--- what owning a struct tells of a field that is an array of structs stands at `map` of a conversion over the list
+-- what owning a struct says about a field that is an array of structs is about `map` of a conversion over the list
 length-map : {A B : Type 0} (f : A → B) (l : List A) → length (map f l) ≡ length l
 length-map f [] = refl
 length-map f (x ∷ l) = ap suc (length-map f l)

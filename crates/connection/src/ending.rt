@@ -47,7 +47,7 @@ fn end_all(table: [Session; 128], cause: Cause) -> [Session; 128]
     next
 }
 
-// The connection over, by a cause.
+// The connection, ended by a cause.
 pub fn ended(c: Connection, cause: Cause) -> Connection
     ensures { λ r. ⌜ r ≡ Connection·ended (causeAs cause) c ⌝ }
 {

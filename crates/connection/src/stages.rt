@@ -1,4 +1,4 @@
-// What the stage of a connection tells: the role, whether the headers are exchanged, and the starting rations.
+// What the stage of a connection says: the role, whether the headers are exchanged, and the starting rations.
 use ration::Ration;
 use state::Connection;
 use state::Stage;

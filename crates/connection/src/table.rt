@@ -16,7 +16,7 @@ pub fn session_at(c: Connection, n: u8) -> Session
     Session::BLANK
 }
 
-// The connection with another session for a number; a number above 127 has none to set.
+// The connection with another session for a number; a number above 127 changes nothing.
 pub fn with_session(c: Connection, n: u8, x: Session) -> Connection
     ensures { λ r. ⌜ r ≡ withSession n x c ⌝ }
 {

@@ -1,4 +1,4 @@
--- What a connection that is well formed has: no more waits for a number than a slot holds.
+-- What holds of a well-formed connection: no more bytes wait for a number than a slot holds.
 use mathlib.Core.Path.{_≡_}
 use mathlib.Core.Bool.{Bool, true, not, _&&_}
 use mathlib.Core.List.{List, [], _∷_}

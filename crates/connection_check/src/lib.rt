@@ -19,7 +19,7 @@ fn only_if(set: bool, holds: bool) -> bool
     !set | holds
 }
 
-// No opening at a server, all numbers idle before the headers.
+// Whether these sides may be there: no opening at a server, and only idle numbers before the headers are exchanged.
 fn placed(role: Role, up: bool, sides: Sides) -> bool
     ensures { λ r. ⌜ r ≡ Connection·placed role up sides ⌝ }
 {
@@ -65,7 +65,7 @@ fn all_formed(table: [Session; 128], role: Role, up: bool) -> bool
     true
 }
 
-// Whether the last number served is one, and all sessions are well formed.
+// Whether the last number served is a session number, and all sessions are well formed.
 pub fn well_formed(c: Connection) -> bool
     ensures { λ r. ⌜ r ≡ wellFormed c ⌝ }
 {

@@ -1,4 +1,4 @@
--- What a message received comes to, for each of its types, from what the steps of the code ensure.
+-- The decision on a received message, for each of its types, from what the steps of the code ensure.
 use mathlib.Core.Path.{_≡_, refl, sym, ap, _∙_}
 use mathlib.Core.Bool.{Bool, true, false, not}
 use mathlib.Core.List.{List, [], _∷_, map}
@@ -110,7 +110,7 @@ module _ (c : Connection) where
           → v ≡ verdict c (judgedBy c m n (receiptAs r))
       step-taken e w o h = rw e (h ∙ rw (w, o))
 
-  -- ---- a message by what it concerns
+  -- ---- a message, by what it concerns
 
   pub by-scope : (m : Message) {n : Message} (z : Scope) {v : Verdict} → m ≡ n → scope n ≡ z → v ≡ verdict c (judgeScope c m z) → v ≡ verdict c (judge c m)
   unfolding judge

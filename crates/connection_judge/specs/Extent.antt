@@ -1,4 +1,4 @@
--- Which bytes of the input an answer takes: how many it uses, and where its payload stands.
+-- Which bytes of the input an answer takes: how many it uses, and where its payload is.
 use Rattle.laws.specs.Result.{Result, ok, refused, violation}
 use Rattle.protocol.specs.Judge.{Report}
 use Rattle.protocol.specs.Result.{extentOf}

@@ -1,4 +1,4 @@
--- What the step of a session at a message received decides.
+-- The decision on a received message, from the step of its session.
 use Prim.Native.Nat.{ℕ}
 use Rattle.laws.specs.Result.{Result, ok, refused, violation}
 use Rattle.wire.specs.declared.Message.{Message}

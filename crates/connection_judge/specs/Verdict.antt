@@ -1,4 +1,4 @@
--- What a receive comes to before anything is written: the connection after it, the answer, and what is to be written.
+-- The verdict of a receive, before its reply is written: the connection after it, the answer, and what is to be written.
 use mathlib.Core.List.{List, [], _∷_}
 use Rattle.laws.specs.Result.{Result, ok, refused, violation}
 use Rattle.wire.specs.declared.Message.the-variants as msg
@@ -16,7 +16,7 @@ pub record Verdict : Type 0 where
   pub answer : Result Report
   pub outs : List Output
 
--- what a decision comes to
+-- the verdict that a decision gives
 abbrev pub verdict : Connection → Decision → Verdict
 verdict c (refuse n) = record { connection = c; answer = refused n; outs = [] }
 verdict c (violate b) = record { connection = ended (b .cause) c; answer = violation (b .code); outs = b .reply }

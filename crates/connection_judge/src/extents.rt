@@ -1,4 +1,4 @@
-// Which bytes of the input an answer takes, and where its payload stands among them.
+// Which bytes of the input an answer takes, and where its payload is among them.
 use crate::Extent;
 use state::Answer;
 use wire_fields::body_length;
@@ -17,7 +17,7 @@ fn none() -> Extent
     }
 }
 
-// A message taken uses 4 bytes plus its length, and its payload stands behind the 4; a header uses 8.
+// A message that is taken uses 4 bytes plus its length, and its payload follows the 4 bytes; a header uses 8.
 pub fn extent_of(answer: Answer) -> Extent
     ensures { λ r. ⌜ r ≡ extentIn (answerAs answer) ⌝ }
 {

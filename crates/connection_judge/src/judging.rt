@@ -1,4 +1,4 @@
-// What a message received does to the connection, with which reply. No bytes are here.
+// What a received message does to the connection, and which reply it gets. No bytes are read or written here.
 use crate::Judged;
 use crate::verdicts::taken;
 use crate::verdicts::violated;
@@ -58,7 +58,7 @@ fn judge_ping_ack(c: Connection, cookie: u16) -> Judged
     violated(c, Violation::UnaskedPingAck)
 }
 
-// The step of a session at a message received, as what the receive comes to.
+// The decision on a message, from the step of its session.
 fn judge_receipt(c: Connection, m: Message, n: u8, receipt: Receipt) -> Judged
     ensures { λ r. ⌜ verdictAs r ≡ verdict c (judgedBy c m n (receiptAs receipt)) ⌝ }
 {
@@ -72,14 +72,14 @@ fn judge_receipt(c: Connection, m: Message, n: u8, receipt: Receipt) -> Judged
     }
 }
 
-// The connection ends by a message of the far end's.
+// A message from the far end ends the connection.
 fn judge_end(c: Connection, m: Message, cause: Cause) -> Judged
     ensures { λ r. ⌜ verdictAs r ≡ record { connection = Connection·ended (causeAs cause) c; answer = ok (message m false); outs = [] } ⌝ }
 {
     taken(ended(c, cause), m, false, Outgoing::Nothing)
 }
 
-// An IncrementRation for the session of a number, by its effective amount.
+// An IncrementRation for one session, by its effective amount.
 fn judge_increment(c: Connection, m: Message, session: u8, shift: u8, increment: u16) -> Judged
     ensures { λ r. ⌜ verdictAs r ≡ verdict c (judgeScope c m (of-session session (increment-of (effectiveIncrement shift increment)))) ⌝ }
 {
@@ -88,7 +88,7 @@ fn judge_increment(c: Connection, m: Message, session: u8, shift: u8, increment:
     judge_receipt(c, m, session, receipt)
 }
 
-// An Abort for the session of a number.
+// An Abort for one session.
 fn judge_abort(c: Connection, m: Message, session: u8, partial: bool) -> Judged
     ensures { λ r. ⌜ verdictAs r ≡ verdict c (judgeScope c m (of-session session (abort-of partial))) ⌝ }
 {
@@ -97,7 +97,7 @@ fn judge_abort(c: Connection, m: Message, session: u8, partial: bool) -> Judged
     judge_receipt(c, m, session, receipt)
 }
 
-// A Close for the session of a number.
+// A Close for one session.
 fn judge_close(c: Connection, m: Message, session: u8) -> Judged
     ensures { λ r. ⌜ verdictAs r ≡ verdict c (judgeScope c m (of-session session close-of)) ⌝ }
 {
@@ -106,7 +106,7 @@ fn judge_close(c: Connection, m: Message, session: u8) -> Judged
     judge_receipt(c, m, session, receipt)
 }
 
-// An Acknowledgment for the session of a number.
+// An Acknowledgment for one session.
 fn judge_acknowledgment(c: Connection, m: Message, session: u8) -> Judged
     ensures { λ r. ⌜ verdictAs r ≡ verdict c (judgeScope c m (of-session session acknowledgment-of)) ⌝ }
 {
@@ -114,7 +114,7 @@ fn judge_acknowledgment(c: Connection, m: Message, session: u8) -> Judged
     judge_receipt(c, m, session, receipt)
 }
 
-// Data for the session of a number.
+// Data for one session.
 fn judge_data(
     c: Connection,
     m: Message,
@@ -142,8 +142,8 @@ fn judge_data(
     judge_receipt(c, m, session, receipt)
 }
 
-// Judges a message received: NoOperation changes nothing, Shutdown and Error end the connection, Ping gets its PingAck, and a
-// session's message is one for its session to take; an increment counts by its effective amount.
+// Judges a received message: NoOperation changes nothing, Shutdown and Error end the connection, Ping gets its PingAck, and a
+// session's message goes to its session; an increment counts by its effective amount.
 pub fn judge(c: Connection, m: Message) -> Judged
     ensures { λ r. ⌜ verdictAs r ≡ verdict c (Judge·judge c m) ⌝ }
 {

@@ -11,13 +11,13 @@ use state::Connection;
 pub use verdicts::incomplete;
 pub use verdicts::violated;
 
-// What is written: one thing at most, or our connection header and then Error.
+// What is written: at most one thing, or our connection header and then Error.
 pub enum Reply {
     Only(Outgoing),
     HeaderError(u16),
 }
 
-// What a receive comes to: the connection after it, the answer, and the reply, which is not yet written.
+// The decision of a receive: the connection after it, the answer, and the reply, which is not yet written.
 pub struct Judged {
     pub connection: Connection,
     pub answer: Answer,

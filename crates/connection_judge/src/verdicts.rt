@@ -1,4 +1,4 @@
-// What a receive comes to before anything is written, and three of its ways: refused, a violation, a message taken.
+// The decision of a receive before its reply is written, in three cases: incomplete input, a violation, a message taken.
 use crate::Judged;
 use crate::Reply;
 use connection::Cause;
@@ -17,7 +17,7 @@ ghost use Rattle.protocol.specs.Judge.{message, refuse, errorAfter, breach};
 ghost use Rattle.connection_output.specs.Outgoing.{outsAs};
 ghost use Rattle.connection_judge.specs.Verdict.{repliesAs, verdictAs, verdict};
 
-// The header or message is not all there: the connection stays as it is.
+// The header or message is not complete: the connection stays as it is.
 pub fn incomplete(c: Connection) -> Judged
     ensures { λ r. ⌜ verdictAs r ≡ verdict c (refuse 10) ⌝ }
 {

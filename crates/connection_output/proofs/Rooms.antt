@@ -1,4 +1,4 @@
--- What is written of nothing, of our connection header and of one message.
+-- What is written for nothing, for our connection header and for one message.
 use mathlib.Core.Path.{_≡_, refl, sym, ap, _∙_}
 use mathlib.Core.List.{List, [], _∷_, _++_, append-nil}
 use mathlib.Core.Bool.{Bool, true, false}
@@ -28,12 +28,12 @@ pub one-message : (m : Message) → bytesOfAll [] (sent m ∷ []) ≡ header m
 unfolding bytesOfAll
 one-message m = ap (λ (l : List ℕ). firstByte m ∷ secondByte m ∷ numberOf m / 256 ∷ numberOf m % 256 ∷ l ++ []) (take-nil (bodyLength m))
 
--- a message is its header and as many bytes of the payload as it tells of
+-- a message is its header and as many bytes of the payload as its length says
 pub one-with : (payload : List ℕ) (m : Message) → bytesOfAll payload (sent m ∷ []) ≡ header m ++ take (bodyLength m) payload
 unfolding bytesOfAll
 one-with payload m = append-nil (header m ++ take (bodyLength m) payload)
 
--- what is written of a message, from its parts
+-- what is written for a message, from its parts
 pub message-with : (payload room : List ℕ) (m : Message) {outs : List Output} {n : ℕ} {body : List ℕ} {r : ℕ × List ℕ} → outs ≡ sent m ∷ []
     → n ≡ bodyLength m → body ≡ take n payload → r ≡ atFront (header m ++ body) room → r ≡ atFront (bytesOfAll payload outs) room
 message-with payload room m o k b w =

@@ -1,4 +1,4 @@
-// What one end writes at its own calls and replies, and the writing of it at the front of a lent room.
+// What one end writes for its own calls and replies, and how it is written at the front of a lent room.
 use session::Sent;
 use wire::Message;
 use wire_connection_header::Written;
@@ -22,7 +22,7 @@ pub enum Outgoing {
     Message(Message),
 }
 
-// What a session sends, with its number: no detail, and an increment unshifted.
+// The message that a session sends, with its number: no detail, and an increment unshifted.
 pub fn of_session(session: u8, sent: Sent) -> Outgoing
     ensures { λ r. ⌜ outsAs r ≡ map (λ m. Judge·sent (numbered session m)) (sentAs sent) ⌝ }
 {
@@ -61,8 +61,8 @@ fn first_bytes(n: u16, payload: &[u8]) -> &[u8]
     payload
 }
 
-// Writes it with the first bytes of a payload behind a Data header, and answers how many bytes it is; a room that is too
-// small stays as lent.
+// Writes the output, with the first bytes of a payload behind a Data header, and returns how many bytes it has; a room that is
+// too small stays as lent.
 pub fn write_with(out: Outgoing, payload: &[u8], room: &mut [u8]) -> usize
     ensures { λ r. ⌜ (r, now (room .exit)) ≡ atFront (bytesOfAll (now (payload .entry)) (outsAs out)) (now (room .entry)) ⌝ }
 {
@@ -82,7 +82,7 @@ pub fn write_with(out: Outgoing, payload: &[u8], room: &mut [u8]) -> usize
     }
 }
 
-// Writes it with nothing behind a header.
+// Writes the output with nothing behind a header.
 pub fn write(out: Outgoing, room: &mut [u8]) -> usize
     ensures { λ r. ⌜ (r, now (room .exit)) ≡ atFront (bytesOfAll [] (outsAs out)) (now (room .entry)) ⌝ }
 {

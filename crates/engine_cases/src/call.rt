@@ -1,10 +1,10 @@
-// The calls of one end: asked of the engine, and in words.
+// The calls of one end: made to the engine, and in words.
 use crate::show;
 use crate::show::item;
 use engine::Called;
 use engine::Connection;
 
-// A call with its numbers; the bytes of a put or a receive are lent beside it.
+// A call with its numbers; the bytes of a put or a receive are passed beside it.
 pub(crate) enum Call {
     Start,
     Open(u8),
@@ -20,7 +20,7 @@ pub(crate) enum Call {
     Receive,
 }
 
-// Asks a call of the engine.
+// Makes a call to the engine.
 pub(crate) fn ask(
     c: Connection,
     call: Call,
@@ -66,7 +66,7 @@ fn number(n: u64) {
     item(show::SPACE, n);
 }
 
-// The numbers of a call.
+// Prints the numbers of a call.
 pub(crate) fn items(call: Call) {
     match call {
         Call::Open(n) | Call::Put(n) | Call::Finish(n) | Call::Close(n) => number(n as u64),

@@ -65,7 +65,7 @@ pub(crate) fn letter(s: &[u8], i: usize) -> u8 {
     b' '
 }
 
-// The number that a letter stands for, 0 where it stands for none.
+// The number that a letter represents, or 0 if it represents none.
 pub(crate) fn number_of(b: u8) -> u32 {
     let i = find(b"123456789abcdef-oplwmKFGHYMXZTPQRSNIJABCD", 0, b);
     if i < 41 {
@@ -138,7 +138,7 @@ fn session_of(code: &[u8]) -> Session {
     }
 }
 
-// An end whose header number is the far one's too.
+// An end whose header number is also the far end's.
 pub(crate) fn state_of(role: Role, code: &[u8]) -> Connection {
     let mark = letter(code, 2);
     let c = Connection {

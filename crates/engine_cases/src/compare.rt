@@ -60,7 +60,7 @@ pub(crate) fn role_words(role: Role) -> u8 {
     }
 }
 
-// The outbound ration, what waits and whether finish is asked, in one number.
+// The outbound ration, the number of waiting bytes and whether finish was asked, in one number.
 fn outward(x: Session) -> u64 {
     let ration = x.outbound;
     (ration_code(ration) << 17) | ((x.waiting as u64) << 1) | (x.finish as u64)
@@ -94,7 +94,7 @@ fn differences(a: Connection, b: Connection) -> u8 {
     found
 }
 
-// What stands beside the sessions, but for over, in one number.
+// All parts of a state except its sessions and `over`, in one number.
 fn rest_code(c: Connection) -> u64 {
     let stage = c.stage;
     let ping = c.ping;

@@ -37,7 +37,7 @@ fn answer(a: Answer, used: usize) {
     show::text(first(&bytes, line.length));
 }
 
-// The bytes used where the words of the answer do not tell of them.
+// Prints the bytes used, where the words of the answer do not include them.
 fn used_beside(a: Answer, used: usize) {
     match a {
         Answer::Header(_) | Answer::Message { .. } => {}
@@ -49,7 +49,7 @@ fn used_beside(a: Answer, used: usize) {
     }
 }
 
-// The payload among the bytes received.
+// Prints the payload among the bytes received.
 fn payload(bytes: &[u8], start: usize, end: usize) {
     if start < end {
         say(show::PAYLOAD);
@@ -57,7 +57,7 @@ fn payload(bytes: &[u8], start: usize, end: usize) {
     }
 }
 
-// The bytes written and the one behind them, and a complaint where a byte behind them is not as lent.
+// Prints the bytes written and the one behind them, and a complaint if any byte behind them is not as lent.
 fn written(wrote: usize, room: &[u8]) {
     if 0 < wrote {
         say(show::WROTE);
@@ -70,7 +70,7 @@ fn written(wrote: usize, room: &[u8]) {
     }
 }
 
-// What a call gives beside the state.
+// Prints what a call gives beside the state.
 fn outcome(called: Called, bytes: &[u8], room: &[u8]) {
     let a = called.answer;
     answer(a, called.used);
@@ -97,7 +97,7 @@ pub(crate) fn role(c: Connection) {
     say(role_words(role_of(stage)));
 }
 
-// The end and the call with its numbers and bytes.
+// Prints the end, and the call with its numbers and bytes.
 fn question(c: Connection, asked: Call, bytes: &[u8]) {
     role(c);
     say(call::word_of(asked));
@@ -108,7 +108,7 @@ fn question(c: Connection, asked: Call, bytes: &[u8]) {
     }
 }
 
-// One call with 272 bytes of room, the bytes of a put or a receive beside it.
+// Makes one call with 272 bytes of room, and with the bytes of a put or a receive.
 pub(crate) fn line(b: Bench, asked: Call, bytes: &[u8]) -> Bench {
     let c = b.connection;
     let mut queue = b.queue;
@@ -122,7 +122,7 @@ pub(crate) fn line(b: Bench, asked: Call, bytes: &[u8]) -> Bench {
     after
 }
 
-// The first bytes of slot 5 with the one before them, and its last byte with the one behind it.
+// Prints the first bytes of slot 5 with the one before them, and its last byte with the one behind it.
 pub(crate) fn slot_5(b: Bench) {
     let queue = b.queue;
     say(show::SLOT_5);

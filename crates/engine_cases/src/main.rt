@@ -1,7 +1,7 @@
-// Asks the calls of the compiled engine: in states that are broken, with buffers that do not fit, and for each refusal.
+// Makes the calls of the compiled engine: in states that are broken, with buffers that do not fit, and for each refusal.
 //
-// What is asked stands on standard input, the file stdin, which says how its lines are read. A row asks each call of one
-// state by itself: ok or the number of the refusal, and whether every refusal left the state, the queue and the room as they
+// The calls to make are on standard input, the file stdin, which says how its lines are read. A row makes each call by itself
+// in one state: ok or the number of the refusal, and whether every refusal left the state, the queue and the room as they
 // were. A line is one call with what it answers, writes and changes.
 //
 // The expected output, the file stdout, is made by hand from docs/PROTOCOL.md, and none of it is copied from a run.

@@ -1,4 +1,4 @@
-// A row: each call asked of one state by itself, with a number each.
+// A row: each call is made by itself in one state, and ok or a number is printed for each.
 use crate::call;
 use crate::call::Call;
 use crate::codes::letter;
@@ -15,7 +15,7 @@ use engine::Connection;
 use engine::Role;
 use engine_marks::is_filled;
 
-// The session number that is asked for, and how many bytes of room and queue are lent: a letter each.
+// The session number that the calls name, and how many bytes of room and queue are lent: a letter each.
 struct Lent {
     number: u8,
     room: usize,
@@ -44,7 +44,7 @@ fn prefix(s: &mut [u8], n: usize) -> &mut [u8] {
     if n <= s.len() { &mut s[0..n] } else { s }
 }
 
-// A call's word with the number of its refusal.
+// Prints a call's word with ok or the number of its refusal.
 fn tell(asked: Call, refusal: u8) {
     say(show::SPACE);
     say(call::word_of(asked));
@@ -55,7 +55,7 @@ fn tell(asked: Call, refusal: u8) {
     }
 }
 
-// Asks a call on buffers of its own, and tells whether a refusal left the state and each byte as they were.
+// Makes a call on buffers of its own, and returns whether a refusal left the state and each byte as they were.
 fn attempt(c: Connection, asked: Call, lent: Lent) -> bool {
     let mut queue = [0xDDu8; 32769];
     let mut room = [0xEEu8; 260];
@@ -74,7 +74,7 @@ fn attempt(c: Connection, asked: Call, lent: Lent) -> bool {
     (refusal == 0) | (as_lent & (change(c, after) == show::SAME))
 }
 
-// Each call in turn, every one on the state given.
+// Makes each call, always on the state given.
 fn attempts(c: Connection, lent: Lent) -> bool {
     let n = lent.number;
     attempt(c, Call::Start, lent)

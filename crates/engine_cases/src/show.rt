@@ -68,7 +68,7 @@ pub(crate) fn text(words: &[u8]) {
     io::write_all(STDOUT_FILENO, words);
 }
 
-// Where a byte stands first from a place on, or the end.
+// Where a byte is first found from a place on, or the end.
 pub(crate) fn find(s: &[u8], at: usize, b: u8) -> usize {
     let mut i = at;
     while i < s.len() {
@@ -80,7 +80,7 @@ pub(crate) fn find(s: &[u8], at: usize, b: u8) -> usize {
     i
 }
 
-// The place behind that byte, or the end.
+// The place behind the first such byte, or the end.
 pub(crate) fn behind(s: &[u8], at: usize, b: u8) -> usize {
     let end = find(s, at, b);
     if end < s.len() {
@@ -89,7 +89,7 @@ pub(crate) fn behind(s: &[u8], at: usize, b: u8) -> usize {
     end
 }
 
-// What stands in a text from a place on.
+// The text from a place on.
 pub(crate) fn rest(s: &[u8], at: usize) -> &[u8] {
     if at <= s.len() { &s[at..] } else { first(s, 0) }
 }
@@ -110,7 +110,7 @@ fn place(words: &[u8], number: u8) -> usize {
     at
 }
 
-// The words of a number.
+// Prints the words of a number.
 pub(crate) fn say(number: u8) {
     let words =
         b"start/open/put/finish/turn/grant/abort/close/ping/shutdown/lost/receive/client /server /\
@@ -120,7 +120,7 @@ pub(crate) fn say(number: u8) {
     text(until(words, place(words, number), b'/'));
 }
 
-// Words and a number behind them.
+// Prints words and a number behind them.
 pub(crate) fn item(words: u8, number: u64) {
     say(words);
     io::print_decimal(STDOUT_FILENO, number);
@@ -134,7 +134,7 @@ fn digits(s: &[u8]) {
     }
 }
 
-// Each byte as two hexadecimal digits; of more than 16 bytes the first eight and the count.
+// Prints each byte as two hexadecimal digits; of more than 16 bytes the first eight and the count.
 pub(crate) fn bytes(s: &[u8]) {
     let n = s.len();
     if 16 < n {
@@ -146,7 +146,7 @@ pub(crate) fn bytes(s: &[u8]) {
     }
 }
 
-// The bytes from one place up to another.
+// Prints the bytes from one place up to another.
 pub(crate) fn part(s: &[u8], start: usize, end: usize) {
     bytes(rest(first(s, end), start));
 }

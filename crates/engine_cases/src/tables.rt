@@ -16,7 +16,7 @@ use crate::show::rest;
 use engine::Connection;
 use engine::Role;
 
-// The first 16 bytes that hexadecimal digits name, and behind them the last of these.
+// The first 16 bytes that hexadecimal digits name; the bytes behind them repeat the 16th.
 fn bytes_of(s: &[u8]) -> [u8; 261] {
     let mut bytes = [(small(s, 30) << 4) | small(s, 31); 261];
     let mut i: usize = 0;
@@ -46,7 +46,7 @@ fn end_of(code: &[u8]) -> Connection {
     state_of(Role::Client, code)
 }
 
-// How many bytes digits up to a space name; where these are 16, an amount above 16 counts instead.
+// How many bytes the digits up to a space name; if there are 16, an amount above 16 counts instead.
 fn count_of(digits: &[u8], amount: u32) -> usize {
     let named = find(digits, 0, b' ') / 2;
     if (named == 16) & (16 < amount) {
@@ -55,7 +55,7 @@ fn count_of(digits: &[u8], amount: u32) -> usize {
     named
 }
 
-// A call with the bytes that digits name, or so many of them.
+// Makes a call with the bytes that digits name, as many as `count_of` says.
 fn put_call(b: Bench, asked: Call, digits: &[u8], amount: u32) -> Bench {
     let bytes = bytes_of(digits);
     line(b, asked, text_line::first(&bytes, count_of(digits, amount)))
@@ -77,7 +77,7 @@ fn put_receipt(text: &[u8]) {
     put_call(on_bench(end_of(text)), Call::Receive, digits, 0);
 }
 
-// What a line of a run asks: a new end, a look at a slot or a fate, a call, or nothing that there is.
+// What a line of a run asks: a new end, a look at a slot or a fate, a call, or nothing known.
 enum RunLine {
     End,
     Slot,
@@ -86,7 +86,7 @@ enum RunLine {
     Wrong,
 }
 
-// What the first letter asks, with the number in the second place and what the third one says.
+// What the first letter asks, with the number in the second place and the meaning of the third letter.
 fn run_line_of(text: &[u8]) -> RunLine {
     let n = small(text, 1);
     let third = letter(text, 2);

@@ -1,7 +1,7 @@
-// Asks 100,000 turns, puts and receipts of one connection, and as often whether it is well formed.
+// Makes 100,000 turns, puts and receipts on one connection, and checks as often whether it is well formed.
 //
-// The argument names one of the loops, none names all. Each prints how many of its calls were taken, and at last the bytes
-// that were left in queue and room are added up, so that the compiler keeps what the calls wrote there. The output is the
+// The argument names one of the loops; without an argument all run. Each prints how many of its calls were taken. At the end
+// the bytes left in queue and room are added up, so that the compiler keeps what the calls wrote there. The output is the
 // same in each run; a clock outside it measures the time.
 mod rounds;
 

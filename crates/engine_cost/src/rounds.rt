@@ -1,4 +1,4 @@
-// The loops: each goes round eight sessions that are open, with endless rations. Queue and room are lent, as by any caller.
+// The loops: each goes round eight open sessions with endless rations. Queue and room are lent, as by any caller.
 use connection::with_session;
 use connection_check::well_formed;
 use engine::Answer;
@@ -33,7 +33,7 @@ fn session(waiting: u16) -> Session {
     }
 }
 
-// A client with the sessions 0 to 7 open, and so many bytes waiting for each.
+// A client with the sessions 0 to 7 open, and the same number of bytes waiting for each.
 fn begun(waiting: u16) -> Round {
     let setup = Setup {
         role: Role::Client,
@@ -79,7 +79,7 @@ fn number(i: u64) -> u8 {
     (i % 8) as u8
 }
 
-// What a call leaves, with a session as it was before the call.
+// The round after a call, with the session set back to what it was before the call.
 fn after(called: Called, taken: u64, n: u8, waiting: u16) -> Round {
     let answer = called.answer;
     let c = called.connection;
@@ -122,7 +122,7 @@ fn receive_round(r: Round, n: u8, room: &mut [u8; 260]) -> Round {
     after(called, r.taken, n, 0)
 }
 
-// Sets a session in each round, which the other loops do beside their call.
+// Sets a session in each round, as the other loops do in addition to their call.
 pub(crate) fn tables() -> u64 {
     let mut r = begun(0);
     let mut i: u64 = 0;

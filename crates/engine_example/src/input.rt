@@ -4,7 +4,7 @@ use libc::STDIN_FILENO;
 // As long as the longest message.
 pub(crate) const INPUT_SIZE: usize = 65539;
 
-// Moves what is behind the bytes used to the front, and answers how many bytes are held then.
+// Moves the bytes behind those used to the front, and returns how many bytes are held then.
 pub(crate) fn drop_first(input: &mut [u8; INPUT_SIZE], held: usize, used: usize) -> usize {
     if INPUT_SIZE < held {
         return 0;
@@ -25,7 +25,7 @@ fn read(free: &mut [u8]) -> usize {
     io::count(got, free)
 }
 
-// Reads more behind the bytes held, and answers how many are held then.
+// Reads more behind the bytes held, and returns how many are held then.
 pub(crate) fn read_behind(input: &mut [u8], held: usize) -> usize {
     let size = input.len();
     if size <= held {

@@ -1,4 +1,4 @@
-// The marks of a room: a byte that stands where no call wrote.
+// The marks of a room: a byte that stays where no call wrote.
 ghost use mathlib.Core.Path.{_≡_};
 ghost use lib.ListN.{length, drop, replicate};
 ghost use Rattle.engine_marks.specs.Marks.{allMarks};

@@ -66,7 +66,7 @@ module _ (s : State) (k : Call) where
   checks true n p = refl
   checks false n p = refl
 
-  -- one check, and a rest that is known where it is passed
+  -- one check, and a rest that is known if it is passed
   then-checks : (b : Bool) (n : ℕ) (p : Plan Effect) (q : Result Report) → (b ≡ false → answers p ≡ q) → answers (check b n p) ≡ refusing b n q
   then-checks b n p q f = checks b n p ∙ guarded b n (answers p) q f
 
@@ -103,7 +103,7 @@ outstanding-is (waiting.Outstanding k) = refl
 
 -- ---- what turn and receive refuse before they search or read
 
--- an answer behind checks is behind them still
+-- checks that are made a second time change no answer
 again-4 : (a b c d : Bool) (n m p q : ℕ) (x : Result Report)
     → refusing a n (refusing b m (refusing c p (refusing d q x))) ≡ refusing a n (refusing b m (refusing c p (refusing d q (refusing a n (refusing b m (refusing c p (refusing d q x)))))))
 again-4 true b c d n m p q x = refl
@@ -254,7 +254,7 @@ module _ (s : Setup) (q : ℕ) (a b : Account) (e : a .line ≡ b .line) where
   unknown lost rest h = absurd (false≢true h)
   unknown (receive input room) rest h = absurd (false≢true h)
 
--- ---- of a log
+-- ---- for a log
 
 module _ (setup : Setup) (hh : Proper setup) (queue : List ℕ) where
   line-is : (n : ℕ) (ks : List Call) → observed setup n (log.log setup queue ks) .line ≡ lineOf (log.run setup queue ks .connection)
@@ -284,7 +284,7 @@ module _ (setup : Setup) (hh : Proper setup) (queue : List ℕ) where
       ∙ ap (λ (n : ℕ). answerTold setup n (accountOf s (meaning k .number)) k x) (run-long setup (made setup queue) ks (made-ok setup hh queue))
       ∙ told-calls ks k x)
 
-  -- of every role, header number, queue and list of calls
+  -- for every role, header number, queue and list of calls
   pub answers-exactly : (calls : List Call) → AnswersExactly setup (length queue) (log.log setup queue calls)
   unfolding out
   answers-exactly calls a c e z =

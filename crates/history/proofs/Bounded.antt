@@ -51,7 +51,7 @@ not-turn (shutdown room) h = refl
 not-turn lost h = refl
 not-turn (receive input room) h = refl
 
--- ---- of one decision
+-- ---- about one decision
 
 module _ (s : State) (k : Call) where
   quiet-by : (d : Decision) → GoodBy s k d → isTurn k ≡ false → dataWritten (setupOf (s .connection)) (outBy s k d) ≡ []
@@ -72,7 +72,7 @@ module _ (setup : Setup) where
       (subst (λ (z : Setup). dataWritten z (outBy s k (decide (s .connection) (s .queue) k)) ≡ []) (same-setup setup s o)
       (quiet-by s k (decide (s .connection) (s .queue) k) (decide-good s (own-ok setup s o) k) h))
 
-  -- a turn that is taken writes that of the number served
+  -- a turn that is taken writes the data message of the number served
   turn-out : (s : State) (room : List ℕ) → Ok setup s → (n : ℕ) (t : Taken)
       → decide (s .connection) (s .queue) (turn room) ≡ accept (setting-session (s .connection) n n (served n) t) → dataWritten setup (out s (turn room)) ≡ n ∷ []
   turn-out s room o n t e =
@@ -88,7 +88,7 @@ module _ (setup : Setup) where
   run-long s (k ∷ ks) o =
       run-long (next s k) ks (next-ok setup s k o) ∙ ap (λ (z : State). length (z .queue)) (next-is s k) ∙ long-by s k (decide (s .connection) (s .queue) k) (decide-good s (own-ok setup s o) k)
 
--- ---- of one turn, after any calls
+-- ---- about one turn, after any calls
 
 module _ (setup : Setup) (hh : Proper setup) (queue : List ℕ) (ks : List Call) (room : List ℕ) where
   o : Ok setup (log.run setup queue ks)
@@ -162,7 +162,7 @@ module _ (setup : Setup) (hh : Proper setup) (queue : List ℕ) (ks : List Call)
       let n = nextReady (st .connection) in
       (n, ok-same (sym a ∙ answers _ e), turn-out setup st room o n t e, serves-first h t q e)
 
-  -- where a turn is refused with 9, nothing is ready
+  -- if a turn is refused with 9, nothing is ready
   nothing-ready : Here → out (log.run setup queue ks) (turn room) .answer ≡ refused 9 → NothingReady setup (length queue) (log.log setup queue ks) (length room)
   nothing-ready (early j h1 h2 e) a = absurd (h1 (refused-same (sym (answers (refuse j) e) ∙ a)))
   nothing-ready (taken cl h t q e) a = absurd (refused-not-ok (sym a ∙ answers _ e))
@@ -185,7 +185,7 @@ module _ (setup : Setup) (hh : Proper setup) (queue : List ℕ) (ks : List Call)
       not-ready n hn true e =
           absurd (true-false (nearest-found (λ i. ask.readySession (at (log.run setup queue ks .connection) i)) (log.run setup queue ks .connection .last) n (o .last) hn e .passes) h)
 
-  -- and where nothing is ready, a turn is refused with 9
+  -- and if nothing is ready, a turn is refused with 9
   clear : MayTurn setup (length queue) (log.log setup queue ks) (length room) → Clear (log.run setup queue ks) (length room)
   clear z =
       let line : observed setup 0 (log.log setup queue ks) .line ≡ lineOf (log.run setup queue ks .connection) = ap (λ (a : Account). a .line) (observed-is setup hh queue ks 0 (omega arith)) in
@@ -212,7 +212,7 @@ module _ (setup : Setup) (hh : Proper setup) (queue : List ℕ) (ks : List Call)
   turns-calls : Turns setup (length queue) (log.log setup queue ks) (out (log.run setup queue ks) (turn room)) (length room)
   turns-calls = record { served-one = served-one here; served-some = served-some here; refused-9 = (nothing-ready here, says-9 here) }
 
--- ---- of every entry of a log
+-- ---- about every entry of a log
 
 module _ (setup : Setup) (hh : Proper setup) (queue : List ℕ) where
   turns-log : (a : List Entry) (e : Entry) (room : List ℕ) → At setup queue a e → e .call ≡ turn room → Turns setup (length queue) a e (length room)
@@ -234,7 +234,7 @@ module _ (setup : Setup) (hh : Proper setup) (queue : List ℕ) where
   never-log a e x h =
       never-14 setup (log.run setup queue (x .before)) (x .call) (run-made setup hh queue (x .before)) (ap (λ (z : Entry). z .answer) (x .entry) ∙ h)
 
-  -- nobody waits for ever: of every role, header number, queue and list of calls
+  -- nobody waits for ever: for every role, header number, queue and list of calls
   pub bounded-waiting : (calls : List Call) → BoundedWaiting setup (length queue) (log.log setup queue calls)
   bounded-waiting calls =
       record {

@@ -1,4 +1,4 @@
--- ration-ledger and put-stream, of every list of calls: from the sums that track the state, and what each call's step lets happen.
+-- ration-ledger and put-stream, for every list of calls: from the sums that track the state, and what each call's step lets happen.
 use mathlib.Core.Path.{_≡_, refl, sym, ap, _∙_, subst}
 use mathlib.Core.Bool.{Bool, true, false, false≢true}
 use mathlib.Core.List.{List, [], _∷_, _++_}
@@ -108,7 +108,7 @@ some-data (o ∷ before) after b close eof ack n size e = some-data before after
     rest (i ∷ x) y e = absurd (let z : _≡_ {A = ℕ} 0 1 = cc in omega arith)
 
 module _ (s : State) (k : Call) (n : ℕ) where
-  -- a Data message that is written is a turn's, alone, and may be written then
+  -- a Data message that is written is written alone, by a turn, and may be written then
   abbrev WritesData : Setup → Decision → Type 0
   WritesData z d =
       (before after : List Output) (b close eof ack : Bool) (size : ℕ)
@@ -168,10 +168,10 @@ module _ (s : State) (k : Call) (n : ℕ) where
   takes-by (violate x) g b close eof ack late size q = absurd (violation-not-ok q)
   takes-by (accept e) g b close eof ack late size q = takes-data e g b close eof ack late size q
 
--- ---- of a log
+-- ---- for a log
 
 module _ (setup : Setup) (hh : Proper setup) (queue : List ℕ) (n : ℕ) (h : n < 128) where
-  -- of the calls ks, and one more
+  -- for the calls ks, and one more
   module _ (ks : List Call) (k : Call) where
     tracked : Tracks setup n (log.run setup queue ks) (summed setup n (log.log setup queue ks))
     tracked = tracks setup n h hh queue ks
@@ -211,7 +211,7 @@ module _ (setup : Setup) (hh : Proper setup) (queue : List ℕ) (n : ℕ) (h : n
     flows-here =
         subst (λ (v : Seen). Flows (v .sends) (summed setup n (log.log setup queue ks) .totals .put) (summed setup n (log.log setup queue ks) .totals .payloads)) (tracked .seen) (tracked .fair .flows)
 
-    -- one entry more
+    -- one more entry
     flows-whole : (before after : List Output) (b close ack : Bool) (size : ℕ)
         → allWritten (setup .role) (out (log.run setup queue ks) k .wrote) ≡ before ++ (sent (msg.Data b close true ack n size) ∷ after)
         → sumAfter setup n (summed setup n (log.log setup queue ks)) (out (log.run setup queue ks) k) .totals .payloads
@@ -270,7 +270,7 @@ module _ (setup : Setup) (hh : Proper setup) (queue : List ℕ) (n : ℕ) (h : n
       go [] w = refl
       go (x ∷ l) w = go l (sumAfter setup n w x)
 
-  -- of every role, header number, queue, list of calls and session number
+  -- for every role, header number, queue, list of calls and session number
   pub ration-ledger : (calls : List Call) → RationLedger setup queue calls n
   ration-ledger calls =
       let s = log.run setup queue calls in

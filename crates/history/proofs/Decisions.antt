@@ -114,7 +114,7 @@ lost-silent c = silent _ (λ _ _. refl)
 
 -- ---- what a call leaves is what its decision leaves
 
--- as many bytes are written as are told
+-- as many bytes are written as are reported
 given-wrote : (c : Connection) (payload : List ℕ) (d : Decision) → given c payload d .wrote ≡ length (writtenBy payload d)
 given-wrote c payload (refuse n) = refl
 given-wrote c payload (violate b) = refl
@@ -157,7 +157,7 @@ module _ (s : State) where
     abbrev entry : Given → List ℕ → Entry
     entry g bytes = record { call = k; answer = g .answer; used = g .used; start = g .start; end = g .end; wrote = bytes }
 
-    -- they stand at the front of the room
+    -- they are at the front of the room
     pub out-is : out s k ≡ outBy s k here
     unfolding out
     out-is =

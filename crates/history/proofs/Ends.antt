@@ -1,4 +1,4 @@
--- over-leaves: a call by which the connection is over changes nothing else but outcomes, for every state. From the effects of the rules.
+-- over-leaves: a call by which the connection is over changes nothing else except outcomes, for every state. From the effects of the rules.
 use mathlib.Core.Path.{_≡_, refl, sym, ap, _∙_, subst}
 use mathlib.Core.Bool.{true, false}
 use mathlib.Core.List.{List, [], _∷_}
@@ -104,7 +104,7 @@ module _ (c : Connection) where
 
 -- ---- the connection after it
 
--- the first session put back where it stood
+-- the first session is put back where it was
 same-first : (l : List Session) → set l 0 (getD l 0 blank) ≡ l
 same-first [] = refl
 same-first (x ∷ l) = refl

@@ -101,7 +101,7 @@ module _ (setup : Setup) where
         other = quiet-other setup;
       }
 
--- ---- waits, of a log
+-- ---- waits, for a log
 
 module _ (setup : Setup) (hh : Proper setup) (queue : List ℕ) where
   pub ready-is : (ks : List Call) (n : ℕ) → n < 128 → ready setup n (log.log setup queue ks) ≡ readyAt (log.run setup queue ks) n
@@ -131,7 +131,7 @@ module _ (setup : Setup) (hh : Proper setup) (queue : List ℕ) where
       (subst (λ (l : List Entry). Waits setup n (log.log setup queue (x .early)) l) (y .first)
       (waits-calls (x .early) (y .early) n h (ap (ready setup n) (x .first) ∙ r) (subst (λ (l : List Entry). Every (waitsOn setup n) l) (sym (y .first)) quiet)))
 
-  -- either n's own is among the data messages, or every entry is one that n waits on
+  -- either n's own data message is among those written, or every entry is one that n waits on
   none-of : (n : ℕ) (b : List Entry) → Every (λ e. not (lapse setup n e)) b → has n (gather (dataWritten setup) b) ≡ false → Every (waitsOn setup n) b
   unfolding Every gather
   none-of n [] q z = tt

@@ -127,7 +127,7 @@ pub record Good (setup : Setup) (s : State) (k : Call) (e : Effect) : Type 0 whe
   pub concerns : reportedOf k (e .report) ≡ e .number
   pub means : e .outs ≡ meantBy setup (accountOf s (e .number)) k (ok (e .report))
   pub reads : Reads (setup .role) k (outBy s k (accept e) .wrote) (e .outs)
-  -- one connection header or one message at most
+  -- at most one connection header or one message
   pub single : length (e .outs) ≤ 1
   pub allowed : Every (mayGo setup (accountOf s (e .number)) (outBy s k (accept e))) (e .outs)
   pub legal : AllLegal (setup .role) (ownOf setup) (farStart (s .connection)) (drop 4 (outBy s k (accept e) .wrote)) (holds s (e .number))

@@ -1,4 +1,4 @@
--- What the other end reads in order is all that stands in the bytes: no bytes are both a message and a connection header.
+-- What the other end reads in order is all that is in the bytes: no bytes are both a message and a connection header.
 use mathlib.Core.Path.{_≡_, refl, sym, ap, _∙_, subst}
 use mathlib.Core.Bool.{Bool, true, false}
 use mathlib.Core.List.{List, [], _∷_, _++_}
@@ -116,7 +116,7 @@ module _ (r : Role) where
   pub written-is : (bytes : List ℕ) (outs : List Output) → ReadInOrder r bytes outs → allWritten r bytes ≡ outs
   written-is bytes outs q = up-to (length bytes) bytes outs (omega arith) q
 
--- ---- of a call
+-- ---- for a call
 
 -- a call that is a ping has a cookie of 16 bits
 abbrev pub CookieFits : Call → Type 0
@@ -147,7 +147,7 @@ module _ (r : Role) (k : Call) (bytes : List ℕ) (outs : List Output) where
   reads-single (in-order q) h = subst (λ (os : List Output). length os ≤ 1) (sym (written-is r bytes outs q)) h
   reads-single (other-cookie cookie told wide e f) h = subst (λ (os : List Output). length os ≤ 1) (sym f) (omega arith)
 
-  -- what stands in one output stands there alone
+  -- if there is at most one output, what is read is alone
   pub reads-alone : (before after : List Output) (o : Output) → Reads r k bytes outs → length outs ≤ 1 → allWritten r bytes ≡ before ++ (o ∷ after) → allWritten r bytes ≡ o ∷ []
   reads-alone before after o q h e =
       let l : length (before ++ (o ∷ after)) ≤ 1 = subst (λ (os : List Output). length os ≤ 1) e (reads-single q h) in

@@ -1,4 +1,4 @@
--- An entry is a lapse of a number's wait exactly in the ways that are named: of every entry, whether a run has it or not.
+-- An entry is a lapse of a number's wait exactly in the ways that are named: for every entry, whether a run has it or not.
 use mathlib.Core.Path.{_≡_, refl, sym, ap, subst, _∙_}
 use mathlib.Core.Logic.{_↔_}
 use mathlib.Core.Bool.{Bool, true, false, _||_, false≢true}
@@ -32,7 +32,7 @@ any-append (x ∷ a) b = go (lapses x) (any-append a b)
     go true e = refl
     go false e = e
 
--- an event by which no wait lapses
+-- an event by which a wait does not lapse
 only-quiet : (n i : ℕ) (x : Event) → lapses x ≡ false → anyLapse (only n i x) ≡ false
 unfolding pick
 only-quiet n i x e = go (eqb i n)
@@ -66,7 +66,7 @@ module _ (s : Setup) (n : ℕ) (e : Entry) where
   abbrev seen : List Event
   seen = gather (outputSeen n) (allWritten (s .role) (e .wrote))
 
-  -- what is told is no lapse, and so nothing is
+  -- what is told is not a lapse, and so nothing is
   none : {A : Type 0} (es : List Event) → anyLapse es ≡ false → (anyLapse (es ++ seen) || false) ≡ true → A
   none es q h =
       let quiet : anyLapse (es ++ seen) ≡ false = any-append es seen ∙ rw q (outputs-quiet n (allWritten (s .role) (e .wrote))) in

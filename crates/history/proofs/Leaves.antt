@@ -31,7 +31,7 @@ Below (refuse n) = n < 20
 Below (violate b) = Unit {0}
 Below (accept e) = Unit {0}
 
--- a violation is one from 20 up, as the log tells it
+-- a violation is a number from 20 up, as the log tells it
 abbrev Breaches : State → Call → Decision → Type 0
 Breaches s k (refuse n) = Unit {0}
 Breaches s k (violate b) = Breached s k b

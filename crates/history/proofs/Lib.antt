@@ -1,4 +1,4 @@
--- The claims over every log, and what they stand on.
+-- The claims over every log, and what they rest on.
 pub mod Decisions
 pub mod InOrder
 pub mod Written

@@ -51,7 +51,7 @@ use Rattle.history.proofs.Written.{Sendable, sent-read-back, opening-re
 use Rattle.history.specs.Claims.{dataNumber, dataWritten}
 use Rattle.laws.proofs.Runs.{still}
 
--- ---- what is written is of no session
+-- ---- what is written is for no session
 
 -- a connection header, a message of the connection as a whole, or nothing
 abbrev pub OfLine : List Output → Type 0
@@ -80,7 +80,7 @@ line-single (header-out own ∷ []) h = omega arith
 line-single (sent m ∷ []) h = omega arith
 line-single (o ∷ p ∷ outs) h = absurd h
 
--- a Ping stands alone, whatever its cookie
+-- the bytes of a Ping are read as one Ping alone, whatever its cookie
 ping-alone : (r : Role) (cookie : ℕ) → (told : ℕ) × (allWritten r (bytesOfAll [] (sent (msg.Ping cookie) ∷ [])) ≡ sent (msg.Ping told) ∷ [])
 unfolding bytesOfAll writtenUpTo readMessage readConnectionHeader parseHeader typed allowed kindOf pick
 ping-alone r cookie = (_, refl)

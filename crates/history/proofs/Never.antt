@@ -1,4 +1,4 @@
--- refuses-14: a call is refused with 14 exactly where the state is not well formed, since no other check has that number; no call of a
+-- refuses-14: a call is refused with 14 exactly if the state is not well formed, since no other check has that number; no call of a
 -- run is, since every state of a run is well formed.
 use mathlib.Core.Path.{_≡_, refl, sym, ap, _∙_}
 use mathlib.Core.Bool.{Bool, true, false, false≢true}
@@ -21,7 +21,7 @@ never s k (refuse n) f e = false≢true (sym (ap isLow (refused-same e)) ∙ f)
 never s k (violate b) f e = violation-not-refused e
 never s k (accept x) f e = refused-not-ok (sym e)
 
--- of every state
+-- for every state
 pub refuses-14 : (s : State) (k : Call) → Refuses14 s k
 refuses-14 s k = (
   λ e. go (wellFormed (s .connection)) refl (rw out-is at e),

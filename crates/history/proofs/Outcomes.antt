@@ -44,7 +44,7 @@ module _ (s : State) (o : Ok (setupOf (s .connection)) s) (k : Call) where
         (λ n h d. ap (λ (x : Session). fateOf (x .outcome)) (other-at s o k e g n d)
         ∙ sym (ap (λ (es : List Event). fold (fateAfter (isUnsent (holds s n .sends))) (outcomeAt (s .connection) n) es) (append-first (reported n k (e .report)) _ (g .others n d))))
 
-    -- where the connection ends, no session is told anything
+    -- if the connection ends, no session is told anything
     untold-at : (cause : Cause) → e .ending ≡ ends cause → (n : ℕ) → n < 128 → (at (base (s .connection) e) n ≡ at (s .connection) n) × (reported n k (e .report) ≡ [])
     untold-at cause z =
         by-number s o k e g (λ n. (at (base (s .connection) e) n ≡ at (s .connection) n) × (reported n k (e .report) ≡ []))
@@ -87,7 +87,7 @@ module _ (setup : Setup) (n : ℕ) (h : n < 128) where
       (ap (λ (a : Account). accountAfter setup n a (out s k)) p ∙ sym (next-account setup s k o n h))
       (ap (λ (a : Account). fateByEntry n a (z .fate) (out s k)) p ∙ ap (λ (f : Fate). fateByEntry n (accountOf s n) f (out s k)) q ∙ sym (fate-next s k o))
 
-  -- of every role, header number, queue and list of calls
+  -- for every role, header number, queue and list of calls
   pub fates-told : Proper setup → (queue : List ℕ) (calls : List Call) → FatesTold setup queue calls n
   unfolding fateTold
   fates-told hh queue calls =

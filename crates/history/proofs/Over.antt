@@ -1,4 +1,4 @@
--- What makes a connection over, as the account of the connection tells it, is what ends it, as the fates tell it: of every call and answer.
+-- What makes a connection over, as its account tells it, is what ends it, as the fates tell it: for every call and answer.
 use mathlib.Core.Path.{_≡_, refl}
 use mathlib.Core.Bool.{Bool, true, false, _||_}
 use Rattle.laws.specs.Result.{Result, ok, refused, violation}

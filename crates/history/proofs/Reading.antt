@@ -41,7 +41,7 @@ use Rattle.history.proofs.Good.{setupOf, lineOf}
 use Rattle.history.proofs.Simulation.{observed-is, run-made, same-setup, ok-formed}
 use Rattle.history.proofs.Entries.{call-told, of-entries}
 
--- ---- what is taken stands in the input
+-- ---- what is taken is at the front of the input
 
 abbrev Stood : Setup → State → Call → List ℕ → Decision → Type 0
 Stood z s k input (refuse n) = Unit {0}
@@ -133,7 +133,7 @@ heard-past s k room (refuse n) h m late e = absurd (refused-not-ok e)
 heard-past s k room (violate b) h m late e = absurd (violation-not-ok e)
 heard-past s k room (accept x) h m late e = h m late (ok-same e)
 
--- ---- a header is taken only where one is due
+-- ---- a header is taken only if one is due
 
 abbrev Due : Connection → ℕ → Type 0
 Due c room = (c .over ≡ false) × (headerDue (roleOf (c .stage)) (greetingOf (c .stage)) ≡ true) × (12 ≤ room)
@@ -225,7 +225,7 @@ module _ (s : State) (k : Call) where
   unread input h stage.Started e q = absurd (false≢true e)
   unread input h (stage.Up r far) e q = ap (λ (z : Result Message). outBy s k (messageTaken (s .connection) z) .answer) q
 
--- ---- of a log
+-- ---- for a log
 
 -- the facts about one receive
 record Reads (s : Setup) (a : List Entry) (e : Entry) (input room : List ℕ) : Type 0 where
@@ -297,7 +297,7 @@ module _ (setup : Setup) (hh : Proper setup) (queue : List ℕ) where
       (λ ks k q. subst (λ (j : Call). Reads setup (log.log setup queue ks) (out (log.run setup queue ks) j) input room)
       (sym (sym (call-told (log.run setup queue ks) k) ∙ q)) (reads-calls ks input room)) calls a c e z h
 
-  -- of every role, header number, queue and list of calls
+  -- for every role, header number, queue and list of calls
   pub receive-reads : (calls : List Call) → ReceiveReads setup (log.log setup queue calls)
   receive-reads calls =
       record {

@@ -1,4 +1,4 @@
--- A receive, where it takes something, keeps what is observed: from the lemma about each message and one session.
+-- A receive that takes something keeps what is observed: from the lemma about each message and one session.
 use mathlib.Core.Path.{_≡_, refl, sym, ap, _∙_, subst}
 use mathlib.Core.Logic.{inl, inr}
 use mathlib.Core.Bool.{Bool, true, false, not, false≢true}
@@ -64,7 +64,7 @@ GoodBy s k (accept e) = Good (setupOf (s .connection)) s k e
 pub settled : {A : Type 0} (s : State) (k : Call) (f : A → Decision) (p : Plan A) → Takes (λ a. GoodBy s k (f a)) p → GoodBy s k (settle refuse f p)
 settled s k f p h = plans.settled (GoodBy s k) refuse f p (stops-all (λ n. tt) p) h
 
--- ---- which session a message is of
+-- ---- which session a message is for
 
 pub scope-number : (m : Message) (i : ℕ) (sm : SessionMessage) → scope m ≡ of-session i sm → secondByte m ≡ i
 scope-number (msg.NoOperation n) i sm e = absurd (let z : _≡_ {A = ℕ} 0 1 = cc in omega arith)
@@ -94,7 +94,7 @@ cookie-bound (msg.Close j) k e h = absurd (let z : _≡_ {A = ℕ} 0 1 = cc in o
 cookie-bound (msg.Acknowledgment j) k e h = absurd (let z : _≡_ {A = ℕ} 0 1 = cc in omega arith)
 cookie-bound (msg.Data o c f a j n) k e h = absurd (let z : _≡_ {A = ℕ} 0 1 = cc in omega arith)
 
--- an open Data comes to a server only, a close flag and a Close to a client only
+-- only a server gets an open Data, and only a client gets a close flag or a Close
 pub possible : (r : Role) (m : Message) (i : ℕ) (x : SessionMessage) → scope m ≡ of-session i x → Sent (otherEnd r) m → Possible r x
 possible r m i x e f = go r m e (f .sender) (f .flags)
   where
@@ -210,7 +210,7 @@ module _ (s : State) (o : Ok (setupOf (s .connection)) s) (input room : List ℕ
   whole-good m (ping-of k) z up w = ping-good m k z up w
   whole-good m (ping-ack-of k) z up w = λ _. quiet-whole m (ping-ack-of k) ping.None goes-on z refl refl refl
 
-  -- what is known where a session's message is taken
+  -- what is known if a session's message is taken
   abbrev Taking : ℕ → SessionMessage → Taken → Type 0
   Taking i sm t =
       Sound (roleOf (s .connection .stage)) (ownStart (s .connection)) (farStart (s .connection)) (at (s .connection) i) (slot i (s .queue)) (received sm ∷ []) [] (slot i (s .queue)) false t

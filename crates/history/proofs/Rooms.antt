@@ -1,4 +1,4 @@
--- room-behind: what a call writes fits the room that it is lent, and what stands behind it is as lent. From what each rule sends.
+-- room-behind: what a call writes fits the room that it is lent, and the bytes behind it are as lent. From what each rule sends.
 use mathlib.Core.Path.{_≡_, refl, sym, ap, subst, _∙_}
 use mathlib.Core.Bool.{Bool, true, false}
 use mathlib.Core.List.{List, [], _∷_, map}
@@ -99,7 +99,7 @@ module _ (c : Connection) (room : ℕ) where
   by-plan : (p : Plan Effect) → Takes (λ e. Fits room (accept e)) p → Fits room (decided p)
   by-plan p h = settled (Fits room) refuse accept p (stops-all refused-fits p) h
 
-  -- of one session, in a room of four bytes
+  -- for one session, in a room of four bytes
   of-one : (n last : ℕ) (r : Report) (p : Plan Taken) → Takes AtMostOne p → ltb room 4 ≡ false
       → Takes (λ e. Fits room (accept e)) (andThen (setting-session c n last r) p)
   of-one n last r p h q =

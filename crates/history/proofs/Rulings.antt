@@ -85,7 +85,7 @@ module _ (s : State) where
   session : (n last : ℕ) (r : Report) (p : Plan Taken) → Stops Low p → Stops Low (andThen (setting-session c n last r) p)
   session n last r p h = stops-then Low (setting-session c n last r) p h
 
-  -- of a state that is well formed
+  -- for a state that is well formed
   module _ (formed : wellFormed (s .connection) ≡ true) where
     -- the first check passes
     behind : {A : Type 0} (k : Call) (f : A → Decision) → ((a : A) → Ruled s k (f a)) → (p : Plan A) → Stops Low p → Ruled s k (settle refuse f (check (not (wellFormed c)) 14 p))
@@ -112,7 +112,7 @@ module _ (s : State) where
     decide-ruled lost = local lost _ (refl, tt)
     decide-ruled (receive input room) = behind (receive input room) (λ go. reading c input (c .stage)) (λ go. reading-ruled s input room (c .stage)) _ (refl, (refl, (refl, tt)))
 
-  -- of one that is not
+  -- for one that is not
   pub decide-ill : wellFormed (s .connection) ≡ false → (k : Call) → decide (s .connection) (s .queue) k ≡ refuse 14
   unfolding startRule openRule putRule finishRule turnRule grantRule abortRule closeRule pingRule shutdownRule lostRule receiveRule
   decide-ill ill (start room) = stops refuse accept 14 _ (ap not ill)

@@ -40,11 +40,11 @@ module _ (s : State) (o : Ok (setupOf (s .connection)) s) where
   full : (q : ℕ) → not (eqb q queueSize) ≡ false → q ≡ queueSize
   full q e = eqb-true q queueSize (not-false (eqb q queueSize) e)
 
-  -- the session that a call sets stands at its number
+  -- the session that a call sets is at its number
   own-at : (n last : ℕ) (r : Report) (t : Taken) → n < 128 → at (commit (s .connection) (setting-session (s .connection) n last r t)) n ≡ t .session
   own-at n last r t h = getD-set-same (s .connection .sessions) n (t .session) blank (let z = o .size in omega arith)
 
-  -- of a number, after a call that is taken
+  -- about a number, after a call that is taken
   abbrev Clears : Call → ℕ → Effect → Type 0
   Clears k n e = RestZero (nextBy s k (accept e)) n
 
@@ -151,7 +151,7 @@ module _ (s : State) (o : Ok (setupOf (s .connection)) s) where
         untouched = untouched-by;
       }
 
--- of every role, header number, queue and list of calls
+-- for every role, header number, queue and list of calls
 module _ (setup : Setup) (hh : Proper setup) (queue : List ℕ) (calls : List Call) where
   pub slots-served : SlotsServed (log.run setup queue calls)
   slots-served = served-slots (log.run setup queue calls) (own-ok setup (log.run setup queue calls) (run-made setup hh queue calls))

@@ -63,7 +63,7 @@ module _ (r : Role) (own far : Ration) (x : Session) (sl : List ℕ) (h : List E
       go [] = refl
       go (m ∷ ms) = rw (written-other i n m d, go ms)
 
-  -- and it is one message at most
+  -- and it is at most one message
   one-own : (ms : List SessionMessage) → AllLawful r own far x sl h payload ms → length (map (λ m. sent (numbered n m)) ms) ≤ 1
   one-own [] l = omega arith
   one-own (m ∷ []) l = omega arith

@@ -46,7 +46,7 @@ module _ (s : State) (o : Ok (setupOf (s .connection)) s) (k : Call) where
         allowed = subst (λ (os : List Output). Every (mayGo (setupOf (s .connection)) (accountOf s (e .number)) (outBy s k (accept e))) os) (g .means) (g .allowed);
       })
 
--- ---- of a log
+-- ---- for a log
 
 module _ (setup : Setup) (hh : Proper setup) (queue : List ℕ) where
   speaks-calls : (ks : List Call) (k : Call)
@@ -61,7 +61,7 @@ module _ (setup : Setup) (hh : Proper setup) (queue : List ℕ) where
       (subst (λ (a : Account). Speaks setup a (outBy s k d)) (sym (observed-is setup hh queue ks (concerned k (outBy s k d .answer)) (number-in s own k d g)))
       (subst (λ (z : Setup). Speaks z (accountOf s (concerned k (outBy s k d .answer))) (outBy s k d)) (same-setup setup s o) (speaks-by s own k d g)))
 
-  -- of every role, header number, queue and list of calls
+  -- for every role, header number, queue and list of calls
   pub reads-back : (calls : List Call) → ReadsBack setup (log.log setup queue calls)
   reads-back calls a c e z fits = of-entries setup queue (λ l x. Speaks setup (accountBefore setup l x) x) speaks-calls calls a c e z .reads fits
 

@@ -73,7 +73,7 @@ Reports m late e = e .report ≡ message m late
 -- ---- from a state
 
 module _ (s : State) where
-  -- what a message may come by, as the state holds it
+  -- whether a message may come, as the state holds it
   abbrev test : Scope → Bool
   test (whole w) = wholeMayArrive (pingingOf (s .connection .ping)) w
   test (of-session i x) = mayArrive (roleOf (s .connection .stage)) (ownStart (s .connection)) (holds s i) x
@@ -116,7 +116,7 @@ module _ (s : State) (k : Call) (m : Message) where
       (receipt-exact (roleOf (c .stage)) (ownStart c) (farStart c) (at c i) (slot i (s .queue)) x (formed-up s (own-ok setup s o) up i hi .place) (possible (roleOf (c .stage)) m i x e w))
       (takes-map (λ t e. ap (message m) e) p (receipt-late (roleOf (c .stage)) (at c i) (ownStart c) (farStart c) x))
 
--- ---- of a log
+-- ---- for a log
 
 module _ (setup : Setup) (hh : Proper setup) (queue : List ℕ) where
   line-is : (ks : List Call) → observed setup 0 (log.log setup queue ks) .line ≡ lineOf (log.run setup queue ks .connection)
@@ -216,7 +216,7 @@ module _ (setup : Setup) (hh : Proper setup) (queue : List ℕ) where
       go true t = (t, same-late (ok-same (sym q ∙ both .0 t)))
       go false t = absurd (violation-not-ok (sym (both .1 t) ∙ q))
 
-  -- of every role, header number, queue and list of calls
+  -- for every role, header number, queue and list of calls
   pub takes-exactly : (calls : List Call) → TakesExactly setup (log.log setup queue calls)
   unfolding Both
   takes-exactly calls =

@@ -1,4 +1,4 @@
--- A violation as the log tells it: how it ends the connection, and what it means to write. What we find is one, and what is then written.
+-- A violation as the log tells it: how it ends the connection, and what it means to write. What we find is as told, with its bytes.
 use mathlib.Core.Path.{_≡_, refl, sym, ap, _∙_, subst}
 use mathlib.Core.Bool.{Bool, true, false, not, true≢false, false≢true}
 use mathlib.Core.List.{List, [], _∷_, _++_}
@@ -41,7 +41,7 @@ pub record Broken (s : State) (k : Call) (b : Breach) : Type 0 where
   pub ends-so : endedBy (b .cause) ≡ endTold k (violation (b .code))
   pub means : b .reply ≡ meantBy (setupOf (s .connection)) (accountOf s 0) k (violation (b .code))
 
--- of a connection that is not over, and begun
+-- such a violation on a connection that is not over, and begun
 pub record Found (s : State) (k : Call) (b : Breach) : Type 0 where
   pub told : Broken s k b
   pub live : s .connection .over ≡ false
@@ -57,7 +57,7 @@ error-means z l v k n (stage.Fresh r) = refl
 error-means z l v k n stage.Started = refl
 error-means z l v k n (stage.Up r far) = refl
 
--- by cases: our header, where it was not sent, and Error; or Error alone
+-- by cases: our header, if it was not sent, and Error; or Error alone
 by-answer : (z : Setup) (a : Account) (k : Call) (n : ℕ) (P : List Output → Type 0)
     → (ungreeted (a .line .greeting) ≡ true → P (header-out (z .header) ∷ sent (msg.Error 0) ∷ [])) → P (sent (msg.Error 0) ∷ []) → P (meantBy z a k (violation n))
 unfolding pick
@@ -72,7 +72,7 @@ Told s k (refuse n) = Unit {0}
 Told s k (violate b) = Broken s k b
 Told s k (accept e) = Unit {0}
 
--- of one that we find
+-- a violation that we find is as the log tells it
 pub breach-told : (s : State) (input room : List ℕ) (n : ℕ) → Told s (receive input room) (breach (s .connection) n)
 breach-told s input room n =
     let a = accountOf s 0 in

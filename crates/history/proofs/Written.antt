@@ -28,7 +28,7 @@ use Rattle.history.specs.Meant.{ReadInOrder}
 
 -- ---- a message without a body, or with one
 
--- what the writer asks of a message, and the reader gives back
+-- what the writer requires of a message, and the reader gives back
 pub record Sendable (r : Role) (m : Message) (payload : List ℕ) : Type 0 where
   pub shift : shiftOf m < 8
   pub session : secondByte m < 128

@@ -1,4 +1,4 @@
--- What a log tells, of the connection and of each session number; the engine's state is not named.
+-- What a log tells about the connection and about each session number; the engine's state does not appear.
 use Prim.Native.Nat.{ℕ}
 use mathlib.Core.Bool.{false}
 use mathlib.Core.List.{List, [], _++_}
@@ -17,9 +17,9 @@ use Rattle.history.specs.Log as log
 use Rattle.history.specs.Meaning.{Line, lineOver, withGreeting, withPinging, only, meaning}
 use Rattle.history.specs.Written.{allWritten}
 
--- ---- of the connection
+-- ---- about the connection
 
--- a Shutdown and an Error that are taken make it over
+-- a Shutdown or an Error that is taken makes it over
 abbrev pub lineByMessage : Line → Scope → Line
 lineByMessage l (whole no-operation-of) = l
 lineByMessage l (whole shutdown-of) = lineOver l
@@ -43,7 +43,7 @@ lineByAnswer l k (violation n) = lineOver l
 abbrev pub lineAfter : Line → Entry → Line
 lineAfter l e = lineByAnswer l (e .call) (e .answer)
 
--- ---- of a session number: what happens to it
+-- ---- about a session number: what happens to it
 
 abbrev pub inScope : ℕ → (SessionMessage → Event) → Scope → List Event
 inScope n f (whole w) = []
@@ -75,7 +75,7 @@ eventsByAnswer r n k bytes (violation j) = []
 abbrev pub events : Role → ℕ → Entry → List Event
 events r n e = eventsByAnswer r n (e .call) (e .wrote) (e .answer)
 
--- ---- the number that an entry concerns, 0 where it concerns the connection as a whole
+-- ---- the number that an entry concerns, or 0 if it concerns the connection as a whole
 
 abbrev pub sessionIn : Scope → ℕ
 sessionIn (whole w) = 0
@@ -92,7 +92,7 @@ concerned k (ok p) = reportedOf k p
 concerned k (refused j) = 0
 concerned k (violation j) = 0
 
--- ---- all that a log tells of a number
+-- ---- all that a log tells about a number
 
 pub record Account : Type 0 where
   pub line : Line
@@ -116,7 +116,7 @@ accountAfter s n a e =
       seen = fold (observe (fromHeader (s .header)) (farOf (a .line))) (a .seen) (events (s .role) n e);
     }
 
--- what an entry tells before it writes, after all that the log so far tells
+-- what the log so far and then the entry tell, without what the entry writes
 abbrev pub seenBefore : Setup → ℕ → Account → Entry → Seen
 seenBefore s n a e = fold (observe (fromHeader (s .header)) (farOf (a .line))) (a .seen) (toldBy n (e .call) (e .answer))
 

@@ -23,7 +23,7 @@ abbrev pub refusing : Bool → ℕ → Result Report → Result Report
 refusing true n rest = refused n
 refusing false n rest = rest
 
--- what is asked of a session is taken where it may be asked, else refused with the number
+-- what is asked of a session is taken if it is allowed, else refused with the number
 abbrev pub takenIf : Bool → ℕ → Result Report
 takenIf true n = ok done
 takenIf false n = refused n
@@ -32,11 +32,11 @@ takenIf false n = refused n
 abbrev pub unlessOver : Line → Result Report → Result Report
 unlessOver l rest = refusing (l .over) 2 rest
 
--- then 1 where the headers are not exchanged
+-- then 1 if the headers are not exchanged
 abbrev pub ifUp : Line → Result Report → Result Report
 ifUp l rest = unlessOver l (refusing (not (greeted (l .greeting))) 1 rest)
 
--- 8 for less room than is asked, 3 for a number above 127
+-- 8 for less room than is needed, 3 for a number above 127
 abbrev pub ifRoom : ℕ → List ℕ → Result Report → Result Report
 ifRoom asked room rest = refusing (ltb (length room) asked) 8 rest
 
@@ -53,8 +53,8 @@ isUnstarted r no-header = isClient r
 isUnstarted r own-header = false
 isUnstarted r (both-headers far) = false
 
--- `queue` is the length of the queue, `a` is told of the number that the call names, and `rest` is what the search of a turn or the
--- reading of a receive answers
+-- `queue` is the length of the queue, `a` is what the log tells about the number that the call names, and `rest` is what the search
+-- of a turn or the reading of a receive answers
 abbrev pub answerTold : Setup → ℕ → Account → Call → Result Report → Result Report
 answerTold s queue a (start room) rest =
     unlessOver (a .line) (ifRoom 8 room (refusing (isServer (s .role)) 4 (refusing (not (ungreeted (a .line .greeting))) 5 (ok done))))

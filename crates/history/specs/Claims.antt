@@ -1,5 +1,5 @@
--- What is claimed of every log: of every role, header number, queue and list of calls, refused ones included; and of every
--- state, what a call that is not taken or ends the connection leaves, what any call leaves of its room, and which call is refused with 14.
+-- What is claimed of every log: for every role, header number, queue and list of calls, refused ones included. And for every state: what
+-- a call leaves that is not taken or ends the connection, what any call leaves of its room, and which call is refused with 14.
 use Prim.Native.Nat.{ℕ, _+_, _≤_, _<_}
 use mathlib.Core.Path.{_≡_}
 use mathlib.Core.Logic.{_↔_}
@@ -78,11 +78,11 @@ isOver s e = lineAfter (blankAccount s .line) e .over
 abbrev pub lapse : Setup → ℕ → Entry → Bool
 lapse s n e = anyLapse (events (s .role) n e) || isOver s e
 
--- neither the number's own data message nor a lapse
+-- the entry has neither the number's own data message nor a lapse
 abbrev pub waitsOn : Setup → ℕ → Entry → Bool
 waitsOn s n e = not (has n (dataWritten s e)) && not (lapse s n e)
 
--- the last of a list, or what stood before it
+-- the last number of a list, or the given one if the list is empty
 abbrev pub lastOf : ℕ → List ℕ → ℕ
 lastOf i [] = i
 lastOf i (k ∷ ks) = lastOf k ks
@@ -119,30 +119,30 @@ pub record MayTurn (s : Setup) (queue : ℕ) (a : List Entry) (room : ℕ) : Typ
   pub roomy : turnRoom ≤ room
   pub whole-queue : queue ≡ queueSize
 
--- and no number is ready
+-- no check refuses the turn before the search, and no number is ready
 pub record NothingReady (s : Setup) (queue : ℕ) (a : List Entry) (room : ℕ) : Type 0 where
   pub may : MayTurn s queue a room
   pub none : (n : ℕ) → n < 128 → ready s n a ≡ false
 
 pub record Turns (s : Setup) (queue : ℕ) (a : List Entry) (e : Entry) (room : ℕ) : Type 0 where
   pub served-one : (r : Report) → e .answer ≡ ok r → (k : ℕ) × (r ≡ served k) × (dataWritten s e ≡ k ∷ []) × Serves s a e k
-  -- where some number is ready, one is served
+  -- if some number is ready, one is served
   pub served-some : MayTurn s queue a room → (n : ℕ) → n < 128 → ready s n a ≡ true → (k : ℕ) × (e .answer ≡ ok (served k))
   pub refused-9 : (e .answer ≡ refused 9) ↔ NothingReady s queue a room
 
--- the third demand, of one log
+-- the third demand, for one log
 pub record BoundedWaiting (s : Setup) (queue : ℕ) (log : List Entry) : Type 0 where
   pub waits : (a b c : List Entry) → log ≡ a ++ (b ++ c) → (n : ℕ) → n < 128 → ready s n a ≡ true → Every (waitsOn s n) b → Waits s n a b
-  -- its own is the 128th at the latest
+  -- the number's own data message is the 128th at the latest
   pub own-by-128 : (a b c : List Entry) → log ≡ a ++ (b ++ c) → (n : ℕ) → n < 128 → ready s n a ≡ true → Every (λ e. not (lapse s n e)) b
       → 128 ≤ length (gather (dataWritten s) b) → has n (gather (dataWritten s) b) ≡ true
   pub turns : (a c : List Entry) (e : Entry) (room : List ℕ) → log ≡ a ++ (e ∷ c) → e .call ≡ turn room → Turns s queue a e (length room)
   pub only-turns-write-data : (a c : List Entry) (e : Entry) → log ≡ a ++ (e ∷ c) → ((room : List ℕ) → e .call ≡ turn room → ⊥) → dataWritten s e ≡ []
   pub never-14 : (a c : List Entry) (e : Entry) → log ≡ a ++ (e ∷ c) → e .answer ≡ refused 14 → ⊥
 
--- ---- what a call that is not taken leaves, of every state and not only of a history
+-- ---- what a call that is not taken leaves, in every state and not only in a history
 
--- nothing of a session but its outcome
+-- two sessions are the same except for the outcome
 pub record SameButOutcome (x y : Session) : Type 0 where
   pub sides : x .sides ≡ y .sides
   pub outbound : x .outbound ≡ y .outbound
@@ -150,7 +150,7 @@ pub record SameButOutcome (x y : Session) : Type 0 where
   pub waiting : x .waiting ≡ y .waiting
   pub finish : x .finish ≡ y .finish
 
--- a connection is over, and nothing else of it changes but outcomes
+-- the connection is over, and nothing else of it changes except outcomes
 pub record OnlyOver (before after : Connection) : Type 0 where
   pub over : after .over ≡ true
   pub stage : after .stage ≡ before .stage
@@ -159,7 +159,7 @@ pub record OnlyOver (before after : Connection) : Type 0 where
   pub ping : after .ping ≡ before .ping
   pub sessions : (n : ℕ) → SameButOutcome (at after n) (at before n)
 
--- our header where it was not sent, then Error, whose four bytes are 08 00 00 00
+-- our header if it was not sent, then Error, whose four bytes are 08 00 00 00
 abbrev pub errorBytes : Stage → ℕ → List ℕ
 errorBytes (stage.Fresh r) own = connectionHeader own ++ (8 ∷ 0 ∷ 0 ∷ 0 ∷ [])
 errorBytes stage.Started own = 8 ∷ 0 ∷ 0 ∷ 0 ∷ []
@@ -180,35 +180,35 @@ pub record RefusedLeaves (s : State) (k : Call) : Type 0 where
   pub violated : (n : ℕ) → out s k .answer ≡ violation n
       → (20 ≤ n) × OnlyOver (s .connection) (next s k .connection) × (next s k .queue ≡ s .queue)
       × (out s k .wrote ≡ errorBytes (s .connection .stage) (s .connection .own))
-  -- no input is used but for a header or a message that is taken
+  -- input is used only for a header or a message that is taken
   pub unused : takesInput (out s k .answer) ≡ false → (out s k .used ≡ 0) × (out s k .start ≡ 0) × (out s k .end ≡ 0)
   -- only a receive finds a violation
   pub receives : (n : ℕ) → out s k .answer ≡ violation n → (input room : List ℕ) × (k ≡ receive input room)
 
--- a call by which the connection is over changes nothing else but outcomes, whatever ends it
+-- a call by which the connection is over changes nothing else except outcomes, whatever ends it
 abbrev pub OverLeaves : State → Call → Type 0
 OverLeaves s k =
     s .connection .over ≡ false → next s k .connection .over ≡ true
     → OnlyOver (s .connection) (next s k .connection) × (next s k .queue ≡ s .queue)
 
--- ---- a call is refused with 14 exactly where the state is not well formed
+-- ---- a call is refused with 14 exactly if the state is not well formed
 
 abbrev pub Refuses14 : State → Call → Type 0
 Refuses14 s k = (out s k .answer ≡ refused 14) ↔ (wellFormed (s .connection) ≡ false)
 
--- ---- what a call leaves of the room that it is lent, of every state
+-- ---- what a call leaves of the room that it is lent, in every state
 
--- as many bytes as it tells are written at the front, the room keeps its length, and what stands behind them is as lent
+-- as many bytes as it reports are written at the front, the room keeps its length, and the bytes behind them are as lent
 pub record RoomBehind (s : State) (k : Call) : Type 0 where
   pub told : called s k .0 .wrote ≡ length (out s k .wrote)
   pub fits : length (out s k .wrote) ≤ length (roomOf k)
   pub size : length (called s k .2) ≡ length (roomOf k)
   pub behind : drop (length (out s k .wrote)) (called s k .2) ≡ drop (length (out s k .wrote)) (roomOf k)
 
--- ---- each call answers the first of its checks, in the order of docs/PROTOCOL.md, "Refusals", that refuses
+-- ---- each call answers with the first of its checks that refuses, in the order of docs/PROTOCOL.md, "Refusals"
 
--- `queue` is the length of the queue; what the search of a turn and the reading of a receive answer behind their checks is in claims of
--- their own
+-- `queue` is the length of the queue; separate claims say what the search of a turn and the reading of a receive answer after their
+-- checks
 abbrev pub AnswersExactly : Setup → ℕ → List Entry → Type 0
 AnswersExactly s queue log =
     (a c : List Entry) (e : Entry) → log ≡ a ++ (e ∷ c)
@@ -222,7 +222,7 @@ pub record Listening (s : Setup) (a : List Entry) (room : ℕ) : Type 0 where
   pub up : greeted (observed s 0 a .line .greeting) ≡ true
   pub roomy : 12 ≤ room
 
--- a message of the connection as a whole may always arrive, but for a PingAck, which has to match the outstanding cookie
+-- a message of the connection as a whole may always arrive, except a PingAck, which has to match the outstanding cookie
 abbrev pub wholeMayArrive : Pinging → ConnectionMessage → Bool
 wholeMayArrive p no-operation-of = true
 wholeMayArrive p shutdown-of = true
@@ -235,12 +235,12 @@ abbrev pub mayCome : Setup → List Entry → Scope → Bool
 mayCome s a (whole w) = wholeMayArrive (observed s 0 a .line .pinging) w
 mayCome s a (of-session i x) = mayArrive (s .role) (fromHeader (s .header)) (observed s i a .seen) x
 
--- a message is late where it crossed our end of its session
+-- a message is late if it crossed our end of its session
 abbrev pub lateOf : Setup → List Entry → Scope → Bool
 lateOf s a (whole w) = false
 lateOf s a (of-session i x) = lateFor (observed s i a .seen .standing) x
 
--- the number that a message which may not come is refused with: 28 for a PingAck, else 25, 26 or 27
+-- the number with which a message that may not come is refused: 28 for a PingAck, else 25, 26 or 27
 abbrev pub wrongFor : Setup → List Entry → Scope → ℕ
 wrongFor s a (whole w) = 28
 wrongFor s a (of-session i x) = wrongNumber (s .role) (observed s i a .seen .standing) x
@@ -257,7 +257,7 @@ pub record TakesExactly (s : Setup) (log : List Entry) : Type 0 where
       → e .answer ≡ ok (message m late)
       → Listening s a (length room) × (mayCome s a (scope m) ≡ true) × (late ≡ lateOf s a (scope m))
 
--- ---- what a receive takes is what the reader gives on its input, and as many bytes are used
+-- ---- what a receive takes is what the reader gives on its input, and that many bytes are used
 
 -- a header is due and no check before it refuses
 pub record Awaiting (s : Setup) (a : List Entry) (room : ℕ) : Type 0 where
@@ -270,7 +270,7 @@ headerAnswer (ok far) = ok (header-received far)
 headerAnswer (refused n) = refused n
 headerAnswer (violation n) = violation n
 
--- a report of what stands at the start of the input, with its bytes and the place of its payload
+-- a report of what is at the front of the input, with its bytes and the place of its payload
 abbrev pub Stands : Setup → List ℕ → Entry → Report → Type 0
 Stands s input e done = ⊥
 Stands s input e (served n) = ⊥
@@ -303,7 +303,7 @@ accountBefore s a e = observed s (concerned (e .call) (e .answer)) a
 abbrev pub meant : Setup → List Entry → Entry → List Output
 meant s a e = meantBy s (accountBefore s a e) (e .call) (e .answer)
 
--- a ping's cookie has the 16 bits of its place in the message
+-- a ping's cookie fits the 16 bits of its place in the message
 abbrev pub ReadsBack : Setup → List Entry → Type 0
 ReadsBack s log =
     (a c : List Entry) (e : Entry) → log ≡ a ++ (e ∷ c) → ((cookie : ℕ) (room : List ℕ) → e .call ≡ ping cookie room → cookie < 65_536)
@@ -317,13 +317,13 @@ SendsAllowed s log = (a c : List Entry) (e : Entry) → log ≡ a ++ (e ∷ c) �
 abbrev pub StateTold : Setup → List ℕ → List Call → ℕ → Type 0
 StateTold s queue calls n = accountOf (run s queue calls) n ≡ observed s n (log.log s queue calls)
 
--- ---- only put and turn touch the queue, and only the slot they serve, in which zeros stand behind the bytes that wait
+-- ---- only put and turn touch the queue, and only the slot they serve, in which zeros follow the waiting bytes
 
--- each byte of a number's slot behind those that wait
+-- each byte of a number's slot behind the waiting bytes is zero
 abbrev pub RestZero : State → ℕ → Type 0
 RestZero t n = (i : ℕ) → at (t .connection) n .waiting ≤ i → i < slotSize → getD (slot n (t .queue)) i 1 ≡ 0
 
--- of a state of a run
+-- the claim for a state of a run
 pub record SlotsServed (s : State) : Type 0 where
   pub by-put : (n : ℕ) (bytes : List ℕ) → out s (put n bytes) .answer ≡ ok done → RestZero (next s (put n bytes)) n
   pub by-turn : (room : List ℕ) (n : ℕ) → out s (turn room) .answer ≡ ok (served n) → RestZero (next s (turn room)) n
@@ -340,7 +340,7 @@ pub record RationLedger (s : Setup) (queue : List ℕ) (calls : List Call) (n : 
   -- what the far end may send, while ours is established and theirs unfinished
   pub inbound : (o : Side) → established o ≡ true → observed s n (log.log s queue calls) .seen .standing ≡ ends o side.Open
       → Balanced (fromHeader (s .header)) (summed s n (log.log s queue calls) .totals .receiving) (at (run s queue calls .connection) n .inbound)
-  -- no Data message that is written passes what was granted, nor does one that is taken and not late
+  -- no Data message that is written exceeds what was granted, nor does one that is taken and not late
   pub written : (a c : List Entry) (e : Entry) (before after : List Output) (begins close eof ack : Bool) (size : ℕ)
       → log.log s queue calls ≡ a ++ (e ∷ c) → allWritten (s .role) (e .wrote) ≡ before ++ (sent (msg.Data begins close eof ack n size) ∷ after)
       → Covers (farOf (observed s n a .line)) (summed s n a .totals .sending) size
@@ -358,11 +358,11 @@ FatesTold s queue calls n = fateOf (at (run s queue calls .connection) n .outcom
 -- ---- the bytes put are the bytes sent: nothing lost, doubled or made up
 
 pub record PutStream (s : Setup) (queue : List ℕ) (calls : List Call) (n : ℕ) : Type 0 where
-  -- of a session that sends, the payloads so far and then what waits in its slot are the bytes put
+  -- while a session sends, its payloads so far and then the bytes waiting in its slot are the bytes put
   pub kept : (unsent : Bool) (bytes : List ℕ) (r : Ration) (end : Bool) → observed s n (log.log s queue calls) .seen .sends ≡ sending unsent bytes r end
       → summed s n (log.log s queue calls) .totals .payloads ++ take (at (run s queue calls .connection) n .waiting) (slot n (run s queue calls .queue))
       ≡ summed s n (log.log s queue calls) .totals .put
-  -- at the Data message with eof its payloads are all the bytes put
+  -- at the Data message with eof, its payloads are all the bytes put
   pub whole : (a c : List Entry) (e : Entry) (before after : List Output) (begins close ack : Bool) (size : ℕ)
       → log.log s queue calls ≡ a ++ (e ∷ c) → allWritten (s .role) (e .wrote) ≡ before ++ (sent (msg.Data begins close true ack n size) ∷ after)
       → summed s n (a ++ (e ∷ [])) .totals .payloads ≡ summed s n (a ++ (e ∷ [])) .totals .put

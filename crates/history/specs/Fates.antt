@@ -46,6 +46,6 @@ pub record Fated : Type 0 where
 unfoldable pub fatedAfter : Setup → ℕ → Fated → Entry → Fated
 fatedAfter s n d e = record { account = accountAfter s n (d .account) e; fate = fateByEntry n (d .account) (d .fate) e }
 
--- none before its first open
+-- there is no fate before its first open
 unfoldable pub fateTold : Setup → ℕ → List Entry → Fate
 fateTold s n es = fold (fatedAfter s n) (record { account = blankAccount s; fate = no-fate }) es .fate

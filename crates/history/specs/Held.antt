@@ -12,7 +12,7 @@ use Rattle.history.specs.Account.{Account}
 abbrev pub lineOf : Connection → Line
 lineOf c = record { over = c .over; greeting = greetingOf (c .stage); pinging = pingingOf (c .ping) }
 
--- of a number
+-- what it holds of a number
 abbrev pub holds : State → ℕ → Seen
 holds s n = look (farStart (s .connection)) (at (s .connection) n) (slot n (s .queue))
 

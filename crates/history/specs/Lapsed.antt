@@ -1,5 +1,5 @@
--- The ways in which an entry of a log ends the wait of a session number, beside the number's own Data message: its abort is taken; an
--- Abort, a Close or a close flag for it is taken; or the connection is over. Only a receive reports a message that is taken.
+-- The ways in which an entry of a log ends the wait of a session number, other than the number's own Data message: its abort is taken;
+-- an Abort, a Close or a close flag for it is taken; or the connection is over. Only a receive reports a message that is taken.
 use Prim.Native.Nat.{ℕ}
 use mathlib.Core.Path.{_≡_}
 use mathlib.Core.Bool.{Bool, true}

@@ -62,7 +62,7 @@ called s (shutdown room) = let g = shutdownCall (s .connection) room in (g .0, s
 called s lost = (lostCall (s .connection), s .queue, [])
 called s (receive input room) = let g = receiveCall (s .connection) input room in (g .0, s .queue, g .1)
 
--- an entry of the log: the call, its answer, how many bytes of its input it used and where in them the payload stands, the bytes
+-- an entry of the log: the call, its answer, how many bytes of its input it used, where among them the payload is, and the bytes
 -- that it wrote
 pub record Entry : Type 0 where
   pub call : Call
@@ -76,7 +76,7 @@ pub record Entry : Type 0 where
 unfoldable pub next : State → Call → State
 next s k = let g = called s k in record { connection = g .0 .connection; queue = g .1 }
 
--- what a call wrote stands at the front of its room
+-- what a call wrote is at the front of its room
 unfoldable pub out : State → Call → Entry
 out s k =
     let g = called s k in

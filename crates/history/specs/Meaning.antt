@@ -1,4 +1,4 @@
--- What each of our calls means where it is taken: to its session number and to the connection, and what it asks to be written.
+-- What each of our calls means if it is taken: for its session number and for the connection, and what it asks to be written.
 use Prim.Native.Nat.{ℕ}
 use mathlib.Core.Bool.{Bool, true}
 use mathlib.Core.List.{List, [], _∷_}
@@ -40,7 +40,7 @@ pub record Meaning : Type 0 where
   pub line : Line → Line
   pub ended : Ended
 
--- of a number `i` what is told of `n`
+-- an event of number `i` counts for `n` only if they are the same number
 abbrev pub only : ℕ → ℕ → Event → List Event
 only n i e = pick (eqb i n) (e ∷ []) []
 

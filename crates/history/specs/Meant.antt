@@ -1,4 +1,4 @@
--- What each entry of a log means to write, and which of it may be written then; told from the log alone.
+-- What each entry of a log means to write, and which of that may be written then; told from the log alone.
 use Prim.Native.Nat.{ℕ, _+_}
 use mathlib.Core.Path.{_≡_}
 use mathlib.Core.Bool.{Bool, true, false, not, _&&_}
@@ -60,7 +60,7 @@ meantOfAll s k (served n) = []
 meantOfAll s k (header-received far) = pick (isServer (s .role)) (header-out (s .header) ∷ []) []
 meantOfAll s k (message m late) = answerOfAll (scope m)
 
--- a violation is answered with Error, after our header where that was not sent; a refusal below 20 means nothing
+-- a violation is answered with Error, after our header if that was not sent; a refusal below 20 means nothing
 abbrev pub meantBy : Setup → Account → Call → Result Report → List Output
 meantBy s a k (ok p) = meantOfAll s k p ++ map (λ m. sent (numbered (concerned k (ok p)) m)) (meantFor (s .role) k p (a .seen))
 meantBy s a k (refused n) = []
@@ -98,7 +98,7 @@ isViolation (ok r) = false
 isViolation (refused n) = false
 isViolation (violation n) = true
 
--- answers with which our header may go: a client's call that reports nothing, a server that has the far header or finds it bad
+-- answers with which our header may be sent: a client's call that reports nothing, or a server's that takes the far header or finds it bad
 abbrev pub greets : Role → Result Report → Bool
 greets r (ok done) = isClient r
 greets r (ok (served n)) = false
@@ -107,7 +107,7 @@ greets r (ok (message m late)) = false
 greets r (refused n) = false
 greets r (violation n) = isServer r
 
--- a PingAck answers one Ping, a Shutdown is a server's, an Error answers a violation; nothing but an Error goes before the headers are
+-- a PingAck answers one Ping, a Shutdown is a server's, an Error answers a violation; nothing but an Error is sent before the headers are
 -- exchanged
 abbrev pub wholeMayGo : Role → Bool → Result Report → ConnectionMessage → Bool
 wholeMayGo r up answer no-operation-of = up
@@ -116,7 +116,7 @@ wholeMayGo r up answer error-of = isViolation answer
 wholeMayGo r up answer (ping-of k) = up
 wholeMayGo r up answer (ping-ack-of k) = up && takesPing k answer
 
--- a session's message is of the number that the entry concerns, of a type and with flags that are ours, and one that the published
+-- a session's message is for the number that the entry concerns, has a type and flags that our end may send, and is one that the published
 -- protocol lets us send now
 abbrev pub messageMayGo : Setup → Account → Entry → Scope → Bool
 messageMayGo s a e (whole w) = wholeMayGo (s .role) (greeted (a .line .greeting)) (e .answer) w
@@ -124,7 +124,7 @@ messageMayGo s a e (of-session i x) =
     eqb i (concerned (e .call) (e .answer)) && greeted (a .line .greeting)
     && fromRole (s .role) x && mayWrite (s .role) (farOf (a .line)) (seenBefore s (concerned (e .call) (e .answer)) a e) x
 
--- nothing goes on a connection that is over, and our header goes once and in its turn
+-- nothing is sent on a connection that is over, and our header is sent once and in its turn
 abbrev pub mayGo : Setup → Account → Entry → Output → Bool
 mayGo s a e (header-out n) = not (a .line .over) && ungreeted (a .line .greeting) && greets (s .role) (e .answer)
 mayGo s a e (sent m) = not (a .line .over) && messageMayGo s a e (scope m)

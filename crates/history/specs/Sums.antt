@@ -1,4 +1,4 @@
--- What a log adds up to, of each session number: the ledgers of its rations and the streams of its bytes.
+-- What a log adds up to for each session number: the ledgers of its rations and the streams of its bytes.
 use Prim.Native.Nat.{ℕ}
 use mathlib.Core.List.{List, []}
 use lib.ListN.{drop}

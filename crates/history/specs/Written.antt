@@ -25,16 +25,16 @@ abbrev pub sizeOf : Output → ℕ
 sizeOf (header-out n) = 8
 sizeOf (sent m) = 4 + bodyLength m
 
--- what stands first, and what `rest` reads behind its bytes
+-- what is at the front, and what `rest` reads behind its bytes
 abbrev pub withRest : (List ℕ → List Output) → List ℕ → List Output → List Output
 withRest rest bytes [] = []
 withRest rest bytes (o ∷ os) = o ∷ rest (drop (sizeOf o) bytes)
 
--- at most so many, up to where neither stands; no bytes are both a message and a connection header
+-- at most this many, up to bytes that are neither; no bytes are both a message and a connection header
 unfoldable pub writtenUpTo : ℕ → Role → List ℕ → List Output
 writtenUpTo zero r bytes = []
 writtenUpTo (suc k) r bytes = withRest (writtenUpTo k r) bytes (messageIn (readMessage r bytes) ++ headerIn (readConnectionHeader bytes))
 
--- all of them: each has four bytes at least, so that there are no more than bytes
+-- all of them: each has at least four bytes, so there are no more of them than bytes
 abbrev pub allWritten : Role → List ℕ → List Output
 allWritten r bytes = writtenUpTo (length bytes) r bytes

@@ -1,8 +1,8 @@
-// Prints the messages of a capture, which holds one direction of a connection, a line each with its place.
+// Prints the messages of a capture, which holds one direction of a connection: a line for each message, with its place.
 //
-// It is run on a capture of each type of message that a client sends, and held to lines that are made by hand: each
-// message is looked up in the published tables, its place is the sum of the lengths before it, and none of the lines is
-// copied from a run.
+// It is tested on a capture with each type of message that a client sends, against lines that are made by hand: each message
+// is looked up in the published tables, its place is the sum of the lengths before it, and none of the lines is copied from
+// a run.
 use capture_reader::FIRST_PLACE;
 use capture_reader::read_at;
 use capture_reader::read_first;
@@ -18,7 +18,7 @@ use wire::Message;
 use wire::Role;
 use wire_connection_header::ReadHeader;
 
-// Whose direction the argument names.
+// The sender that the argument names.
 enum Sender {
     Known(Role),
     Unknown,
@@ -56,13 +56,13 @@ fn at(place: usize) -> Line {
     Line::new().number(place as u64)
 }
 
-// A line of a message, after which reading goes on.
+// Prints the line of a message, after which reading goes on.
 fn put_message(place: usize, m: Message) -> bool {
     put(with_message(at(place).text(b" "), m).text(b"\n"));
     true
 }
 
-// A line of a refusal, after which reading stops.
+// Prints the line of a refusal, after which reading stops.
 fn put_refusal(place: usize, number: u8) -> bool {
     put(
         at(place).text(b" refused ")
@@ -72,7 +72,7 @@ fn put_refusal(place: usize, number: u8) -> bool {
     false
 }
 
-// The connection header, by its number; nothing else depends on it.
+// Prints the number of the connection header; nothing else depends on it.
 fn put_header(capture: &[u8]) {
     match wire_connection_header::read_connection_header(capture) {
         ReadHeader::Number(n) => put(at(0).text(b" header ").number(n as u64).text(b"\n")),
@@ -85,7 +85,7 @@ fn put_header(capture: &[u8]) {
     }
 }
 
-// A line of what stands at a place: a message, or the refusal that ends the reading.
+// Prints the line of a place: a message, or the refusal that ends the reading.
 fn put_step(place: usize, step: Step) -> Turn {
     let next = step.next;
     let more = match next {
@@ -99,7 +99,7 @@ fn put_step(place: usize, step: Step) -> Turn {
     }
 }
 
-// Each message until the first refusal, which keeps its place.
+// Prints each message until the first refusal, which keeps its place.
 fn put_messages(capture: &[u8], from: Role) {
     let mut turn = put_step(FIRST_PLACE, read_first(capture, from));
     let mut turns = u64::MAX;
@@ -114,7 +114,7 @@ fn put_length(capture: &[u8]) {
     put(Line::new().text(b"length ").number(length).text(b"\n"));
 }
 
-// Whether the input has a byte more.
+// Whether the input has another byte.
 fn is_more() -> bool {
     let mut byte = [0u8; 1];
     io::read_full(STDIN_FILENO, &mut byte) == 1

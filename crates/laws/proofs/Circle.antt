@@ -127,7 +127,7 @@ pub nearest-lt : (test : ℕ → Bool) (i : ℕ) → i < 128 → nearest test i 
 unfolding nearest
 nearest-lt test i h = first-lt test i 128 h
 
--- where some number passes, the search finds one that passes and is nearest
+-- if some number passes, the search finds one that passes and is nearest
 pub nearest-found : (test : ℕ → Bool) (i n : ℕ) → i < 128 → n < 128 → test n ≡ true → Nearest test i n (nearest test i)
 unfolding nearest
 nearest-found test i n hi hn e = first-nearest test i 128 n hi hn e (gap-le i n)

@@ -1,4 +1,4 @@
--- The three cases of a result differ, and a value stands in one result only.
+-- The three cases of a result differ, and equal results hold equal values.
 use mathlib.Core.Path.{_≡_}
 use Prim.Native.Nat.{ℕ}
 use native.Mathlib.Omega.{arith}

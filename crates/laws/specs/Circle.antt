@@ -11,7 +11,7 @@ following i = (i + 1) % 128
 unfoldable pub gap : ℕ → ℕ → ℕ
 gap i n = (n + 127 - i) % 128 + 1
 
--- the first of the k numbers after i that passes the test; the k-th after i where none does
+-- the first of the k numbers after i that passes the test; the k-th after i if none does
 unfoldable pub firstAfter : (ℕ → Bool) → ℕ → ℕ → ℕ
 firstAfter test i zero = i
 firstAfter test i (suc k) = pick (test (following i)) (following i) (firstAfter test (following i) k)

@@ -5,7 +5,7 @@ use lib.ListN.{length, drop}
 use lib.Dec.{leb}
 use Rattle.laws.specs.Pick.{pick}
 
--- bytes over the front of a room; room past them stays as lent
+-- bytes written over the front of a room; the room past them stays as lent
 abbrev pub overlaid : List ℕ → List ℕ → List ℕ
 overlaid bytes room = bytes ++ drop (length bytes) room
 

@@ -17,7 +17,7 @@ module _ {S C E : Type 0} (next : S → C → S) (out : S → C → E) where
   logOf s [] = []
   logOf s (c ∷ cs) = out s c ∷ logOf (next s c) cs
 
--- what is made of a list of entries, from the left
+-- a list of entries, folded from the left
 unfoldable pub fold : {W E : Type 0} → (W → E → W) → W → List E → W
 fold f w [] = w
 fold f w (e ∷ es) = fold f (f w e) es
@@ -32,7 +32,7 @@ unfoldable pub gather : {E A : Type 0} → (E → List A) → List E → List A
 gather f [] = []
 gather f (e ∷ es) = f e ++ gather f es
 
--- how often m stands in a list
+-- how often m occurs in a list
 unfoldable pub times : ℕ → List ℕ → ℕ
 times m [] = 0
 times m (k ∷ ks) = pick (eqb k m) (suc (times m ks)) (times m ks)

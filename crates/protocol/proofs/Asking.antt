@@ -1,5 +1,5 @@
--- A local call is taken exactly where what is observed of its session lets the local side ask it, and refused with the number told
--- else: from the rules, one law a call.
+-- A local call is taken exactly if what is observed of its session lets the local side ask for it, and is otherwise refused with the
+-- number told: from the rules, one law for each call.
 use mathlib.Core.Path.{_≡_, refl, sym, ap, _∙_}
 use mathlib.Core.Bool.{Bool, true, false, not, _&&_, _||_, true≢false, false≢true}
 use mathlib.Core.List.{List}
@@ -37,7 +37,7 @@ both-are : {a b : Bool} (c d : Bool) → a ≡ c → b ≡ d → (a && b) ≡ (c
 both-are c d p q = rw (p, q)
 
 module _ (far : Ration) (x : Session) (s : List ℕ) where
-  -- what is observed to be sent, were its sides these
+  -- what is observed of its sending, if its sides were these
   abbrev sendsAt : Sides → Sending
   sendsAt z = sendsOf far z (take (x .waiting) s) (x .outbound) (x .finish)
 
@@ -65,7 +65,7 @@ module _ (far : Ration) (x : Session) (s : List ℕ) where
 
   -- ---- put and finish
 
-  -- the slot has room exactly where no more than a slot waits then
+  -- the slot has room exactly if no more bytes wait then than a slot holds
   has-room : (n : ℕ) → x .waiting ≤ length s → x .waiting ≤ slotSize → ltb (slotSize - x .waiting) n ≡ false → leb (length (take (x .waiting) s) + n) slotSize ≡ true
   has-room n h k e =
       let size = length-take-le (x .waiting) s h in
@@ -147,7 +147,7 @@ module _ (far : Ration) (x : Session) (s : List ℕ) where
       rest : Bool
       rest = isAmount n && hasRoom (x .inbound) n
 
-      -- the number, where the two tests come out so
+      -- the number of the refusal, by the results of the two tests
       number : {a b : Bool} → mayGrantTo (endsOf (x .sides)) ≡ a → isAmount n ≡ b → pick a (pick b 7 12) 5 ≡ grantNumber (look far x s) n
       number p q = sym (rw (p, q))
 

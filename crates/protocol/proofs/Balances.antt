@@ -39,7 +39,7 @@ data-counted side.Open t l n close eof ack e = refl
 data-counted side.Finished t l n close eof ack e = refl
 data-counted side.Ended t l n close eof ack e = absurd (true≢false e)
 
--- so is Data written, and an increment by its amount: of one received what we may send grows, of one written what we may receive
+-- so is Data written, and an increment by its amount: one received grows what we may send, one written what we may receive
 pub written-counted : (l : Ledger) (n : ℕ) (begins close eof ack : Bool)
     → sendingAfter l (wrote (data-of n begins close eof ack)) ≡ record { granted = l .granted; spent = l .spent + n }
 written-counted l n begins close eof ack = refl

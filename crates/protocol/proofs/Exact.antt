@@ -1,5 +1,5 @@
--- A message is taken exactly where the published protocol lets the far end send it now, and refused with the number told else; a turn
--- exactly where its session is ready.
+-- A message is taken exactly if the published protocol lets the far end send it now, and is otherwise refused with the number told; a
+-- turn serves a session exactly if it is ready.
 use mathlib.Core.Path.{_≡_, refl, sym, ap, _∙_}
 use mathlib.Core.Bool.{Bool, true, false, not, _&&_, true≢false, false≢true}
 use mathlib.Core.List.{List}
@@ -33,7 +33,7 @@ once : (a : Bool) (n : ℕ) → (not a ≡ true → (a ≡ false) × (n ≡ n)) 
 once a n = ((λ e. (not-true a e, refl)), not-false a)
 
 module _ (r : Role) (own far : Ration) (x : Session) (s : List ℕ) where
-  -- what is observed of the session, were its sides these
+  -- what is observed of the session, if its sides were these
   abbrev seenAt : Sides → Seen
   seenAt z = record { standing = endsOf z; sends = sendsOf far z (take (x .waiting) s) (x .outbound) (x .finish); inbound = x .inbound }
 
@@ -127,7 +127,7 @@ twice t c a b q e = (first, second)
         let z = with-c true (not-false a h) in
         ((λ k. (e ∙ ap (λ (d : Bool). d && b) z ∙ not-true b k, sym (ap (λ (d : Bool). pick {A = ℕ} d 26 25) z))), λ k. e ∙ ap (λ (d : Bool). d && b) z ∙ not-false b k)
 
--- a message is taken exactly where the published protocol lets the far end send it now
+-- a message is taken exactly if the published protocol lets the far end send it now
 pub receipt-exact : (r : Role) (own far : Ration) (x : Session) (s : List ℕ) (m : SessionMessage) → placed r true (x .sides) ≡ true → Possible r m
     → Exactly (mayArrive r own (look far x s) m) (wrongNumber r (endsOf (x .sides)) m) (receipt r own far x m)
 unfolding receipt
@@ -140,7 +140,7 @@ receipt-exact r own far x s (abort-of b) p q = other-exact r own far x s (abort-
 receipt-exact r own far x s close-of p q = other-exact r own far x s close-of (x .sides) refl
 receipt-exact r own far x s acknowledgment-of p q = other-exact r own far x s acknowledgment-of (x .sides) refl
 
--- a turn serves a session exactly where it is ready
+-- a turn serves a session exactly if it is ready
 pub turn-exact : (own far : Ration) (x : Session) → Exactly (readySession x) 9 (turnAsk own far x)
 unfolding turnAsk readySession
 turn-exact own far x = go (x .sides)

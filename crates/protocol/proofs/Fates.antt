@@ -1,4 +1,4 @@
--- What each rule makes of a session's outcome is what is told of its fate: from the rules.
+-- What each rule does to a session's outcome is what is told of its fate: from the rules.
 use mathlib.Core.Path.{_≡_, refl, ap, _∙_}
 use mathlib.Core.Bool.{Bool, true, false}
 use mathlib.Core.List.{List}

@@ -1,4 +1,4 @@
--- A state is well formed exactly where each item of docs/PROTOCOL.md, "Well-formed state", holds, in numbers and cases: from the tests
+-- A state is well formed exactly if each item of docs/PROTOCOL.md, "Well-formed state", holds, in numbers and cases: from the tests
 -- of the state.
 use mathlib.Core.Path.{_≡_, refl, sym, ap, _∙_}
 use mathlib.Core.Bool.{Bool, true, false, not, _&&_, true≢false}
@@ -90,7 +90,7 @@ formed-only c e =
     let h : c .last < 128 = ltb-true (c .last) 128 (and-first low all e) in
     record { last = omega arith; each = each-only (c .stage) (c .sessions) (and-second low all e) }
 
--- ---- and the items are all that the tests ask
+-- ---- and the tests require no more than the items
 
 range-if : (r : Ration) → ((left : ℕ) → r ≡ ration.Finite left → left ≤ 2_147_483_647) → inRange r ≡ true
 range-if (ration.Finite left) h = le-leb left _ (h left refl)

@@ -1,4 +1,4 @@
--- By which events a wait lapses, and by which not, each constructor named: from the definition, by cases.
+-- Which events end a wait and which do not, each constructor named: from the definition, by cases.
 use mathlib.Core.Path.{_≡_, refl, sym}
 use mathlib.Core.Bool.{true, false, true≢false}
 use Rattle.protocol.specs.Message.{data-of, increment-of, abort-of, close-of, acknowledgment-of}

@@ -1,4 +1,4 @@
--- A rule with one check more, just before it takes: what it takes then, with which numbers it refuses, and where exactly.
+-- A rule with one more check, just before it takes: what it takes then, with which numbers it refuses, and exactly when.
 use mathlib.Core.Path.{_≡_, refl, sym, ap, _∙_}
 use mathlib.Core.Bool.{Bool, false, not, _&&_}
 use Prim.Native.Nat.{ℕ}
@@ -6,7 +6,7 @@ use Rattle.laws.specs.Pick.{pick}
 use Rattle.protocol.specs.Plan.{Plan, stop, check, take, andThen}
 use Rattle.protocol.proofs.Plans.{Takes, Exactly, Stops}
 
--- one check more, after all the others
+-- one more check, after all the others
 abbrev pub lastly : {A : Type 0} → Bool → ℕ → Plan A → Plan A
 lastly b n (stop k) = stop k
 lastly b n (check c k p) = check c k (lastly b n p)
@@ -27,7 +27,7 @@ then-lastly f b n (stop k) = refl
 then-lastly f b n (check c k p) = ap (check c k) (then-lastly f b n p)
 then-lastly f b n (take a) = refl
 
--- where the rule takes exactly by t, and refuses with w else: with the last check by t and not b, and refuses with n where t holds
+-- if the rule takes exactly by t and else refuses with w: with the last check it takes by t and not b, and refuses with n if t holds
 pub exact-lastly : {A : Type 0} (b : Bool) (n : ℕ) (t : Bool) (w : ℕ) (p : Plan A) → Exactly t w p → Exactly (t && not b) (pick t n w) (lastly b n p)
 unfolding pick
 exact-lastly b n t w (stop k) h = (ap (λ (z : Bool). z && not b) (h .0), h .1 ∙ sym (ap (λ (z : Bool). pick z n w) (h .0)))

@@ -104,7 +104,7 @@ in-any own side.Finished side.Finished ib l h = tt
 in-any own side.Finished side.Ended ib l h = tt
 in-any own side.Ended t ib l h = tt
 
--- what is observed where the ends stand so
+-- what is observed, with the ends given
 abbrev pub seenSo : Ends → Sending → Ration → Seen
 seenSo st sd ib = record { standing = st; sends = sd; inbound = ib }
 
@@ -132,7 +132,7 @@ module _ (r : Role) (own far : Ration) (p : List ℕ) where
   terminated st (sending true w q f) l h = (h .0, h .1, still-gone st (h .2))
   terminated st (sending false w q f) l h = (h .0, still-running side.Ended st (h .1))
 
-  -- no Data is written, and nothing arrives, where the far end has terminated
+  -- no Data is written, and nothing arrives, after the far end has terminated
   gone-quiet : (st : Ends) (v : Seen) (m : SessionMessage) → Gone st → permitsTheirs st v m ≡ true → ⊥
   gone-quiet unused v m g h = false≢true h
   gone-quiet (ends o side.Open) v m g h = g
@@ -273,7 +273,7 @@ module _ (r : Role) (own far : Ration) (p : List ℕ) where
 
   -- ---- what we receive
 
-  -- wherever the far end then stands
+  -- whatever the far end is then
   in-moved : (t o : Side) (ib : Ration) (l : Ledger) → Balanced own l ib → InFair own (ends o t) ib l
   in-moved side.Open side.Open ib l h = h
   in-moved side.Open side.Finished ib l h = h

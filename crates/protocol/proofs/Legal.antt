@@ -27,7 +27,7 @@ pub record Writes (r : Role) (far : Ration) (payload : List ℕ) (v : Seen) (m :
   pub ours : fromRole r m ≡ true
   pub bears : Bears payload (v .sends) m
 
--- an open that may be asked, a message that may arrive, a message that may be written
+-- an open that may be asked for, a message that may arrive, a message that may be written
 abbrev pub Legal : Role → Ration → Ration → List ℕ → Seen → Event → Type 0
 Legal r own far payload v opens = mayAskOpen r v ≡ true
 Legal r own far payload v finishes = Unit {0}

@@ -1,4 +1,4 @@
--- What a rule comes to: one law for each way through its checks, and what holds where it takes.
+-- The result of a rule: one law for each way through its checks, and what holds if it takes.
 use mathlib.Core.Path.{_≡_, refl, ap}
 use mathlib.Core.Bool.{Bool, true, false}
 use Prim.Native.Nat.{ℕ}
@@ -25,7 +25,7 @@ takes-then P f (stop n) h = tt
 takes-then P f (check b n p) h = λ e. takes-then P f p (h e)
 takes-then P f (take a) h = h
 
--- a rule takes exactly where the test holds, and refuses with the number w else
+-- a rule takes exactly if the test holds, and else refuses with the number w
 abbrev pub Exactly : {A : Type 0} → Bool → ℕ → Plan A → Type 0
 Exactly t w (stop n) = (t ≡ false) × (n ≡ w)
 Exactly t w (check b n p) = (b ≡ true → (t ≡ false) × (n ≡ w)) × (b ≡ false → Exactly t w p)
@@ -47,7 +47,7 @@ stops-then P f (stop n) h = h
 stops-then P f (check b n p) h = (h .0, stops-then P f p (h .1))
 stops-then P f (take a) h = tt
 
--- what a rule comes to where it takes exactly by the test
+-- the result of a rule that takes exactly by the test
 pub exact-takes : {A B : Type 0} (bad : ℕ → B) (good : A → B) (P : A → Type 0) (t : Bool) (w : ℕ) (p : Plan A) → Exactly t w p → Takes P p → t ≡ true
     → (a : A) × (settle bad good p ≡ good a) × P a
 unfolding settle
@@ -84,7 +84,7 @@ stops-map P Q f (stop n) h = f n h
 stops-map P Q f (check b n p) h = (f n (h .0), stops-map P Q f p (h .1))
 stops-map P Q f (take a) h = tt
 
--- what holds of all that a rule can refuse with and can take holds of what it comes to
+-- what holds of all that a rule can refuse with and can take holds of its result
 pub settled : {A B : Type 0} (P : B → Type 0) (bad : ℕ → B) (good : A → B) (p : Plan A) → Stops (λ n. P (bad n)) p → Takes (λ a. P (good a)) p
     → P (settle bad good p)
 unfolding settle
@@ -93,7 +93,7 @@ settled P bad good (check true n p) h k = h .0
 settled P bad good (check false n p) h k = settled P bad good p (h .1) (k refl)
 settled P bad good (take a) h k = k
 
--- where a rule that takes exactly by a test takes, the test holds
+-- if a rule that takes exactly by a test takes, the test holds
 pub exact-true : {A : Type 0} (t : Bool) (w : ℕ) (p : Plan A) → Exactly t w p → Takes (λ a. t ≡ true) p
 exact-true t w (stop n) h = tt
 exact-true t w (check b n p) h = λ e. exact-true t w p (h .1 e)

@@ -187,7 +187,7 @@ module _ (r : Role) (own far : Ration) (x : Session) (s : List ℕ) (f : Formed 
   data-sound n false eof ack side.Open e q = λ _.
       data-kept n false eof ack false side.Open _ e refl refl refl refl (minus-in-range (x .inbound) n (f .inbound)) (counts n e) (goes-on-pairs r side.Open eof)
 
-  -- a message that changes nothing but where the far side stands
+  -- a message that changes nothing but the state of the far side
   moved-sound : (m : SessionMessage) (late : Bool) (o t t′ : Side) (y : Session) → x .sides ≡ sides.Live o t → y .sides ≡ sides.Live o t′
       → y .outbound ≡ x .outbound → y .inbound ≡ x .inbound → y .waiting ≡ x .waiting → y .finish ≡ x .finish
       → theirs t′ (endsOf (x .sides)) ≡ endsAfter (endsOf (x .sides)) (received m) → look far x s .sends ≡ sendsAfter far (look far x s .sends) (received m)

@@ -23,7 +23,7 @@ use Rattle.protocol.specs.Asked.{isUnsent}
 use Rattle.protocol.proofs.Plans.{Takes}
 use Rattle.protocol.proofs.Views.{endsOf, sendsOf, look}
 
--- the messages that a rule sends where it takes
+-- the messages that a rule sends if it takes
 abbrev pub Sends : List SessionMessage → Taken → Type 0
 Sends ms t = t .sent ≡ ms
 

@@ -1,4 +1,4 @@
--- The sizes of the queue and of a turn's room in numbers, and where the slot of a number stands: from the definitions.
+-- The sizes of the queue and of a turn's room in numbers, and where the slot of a number is: from the definitions.
 use mathlib.Core.Path.{_≡_, refl}
 use mathlib.Core.List.{List, _++_}
 use Prim.Native.Nat.{ℕ, _+_, _*_, _-_}
@@ -16,7 +16,7 @@ slot-stands n queue = refl
 pub with-slot-stands : (n : ℕ) (s queue : List ℕ) → withSlot n s queue ≡ take (n * 256) queue ++ s ++ drop (n * 256 + 256) queue
 with-slot-stands n s queue = refl
 
--- a put sets its bytes behind those that wait, a turn takes the first n that wait away; zeros up to 256
+-- a put sets its bytes behind those that wait, a turn removes the first n that wait; zeros follow up to 256
 pub put-stands : (waiting : ℕ) (bytes s : List ℕ)
     → putSlot waiting bytes s ≡ (take waiting s ++ bytes) ++ replicate (256 - length (take waiting s ++ bytes)) 0
 put-stands waiting bytes s = refl

@@ -21,7 +21,7 @@ put-length w bytes s h k =
 pub turn-length : (w n : ℕ) (s : List ℕ) → w ≤ slotSize → length (turnSlot w n s) ≡ slotSize
 turn-length w n s h = padded-length (afterTurn w n s) (simp length-take (omega arith))
 
--- what stands behind the bytes of a slot that is served is zeros up to its end
+-- a slot that is served has zeros behind its bytes, up to its end
 pub padded-zeros : (bytes : List ℕ) (k : ℕ) → length bytes ≤ k → k < slotSize → getD (padded bytes) k 1 ≡ 0
 padded-zeros bytes k h l =
     let at : length bytes + (k - length bytes) ≡ k = omega arith in

@@ -38,7 +38,7 @@ use Rattle.protocol.proofs.Views.{endsOf, sendsOf, look, Formed, seen-p
 use Rattle.protocol.proofs.Slots.{turn-length}
 use Rattle.protocol.proofs.Sound.{CarriesData, Sound}
 
--- ---- the bytes that go and those that stay
+-- ---- the bytes that are sent and those that stay
 
 pub smaller-waiting : (w : ℕ) (r : Ration) → sendable w r ≤ w
 smaller-waiting w (ration.Finite n) = omega arith
@@ -116,7 +116,7 @@ turn-sound r own far x s f ho hf long = go (x .sides) refl
     stays n h = let e : x .waiting - (x .waiting - n) ≡ n = omega arith in
         ap (λ (k : ℕ). take (x .waiting - n) (turnSlot (x .waiting) k s)) e ∙ turn-slot (x .waiting) n s long h
 
-    -- what goes is what waits first, and all of it with eof
+    -- what is sent is what waits first, and all of it with eof
     carry : (n : ℕ) (u : Bool) (q : Ration) → n ≤ x .waiting → CarriesData s n (lastData x n) (sending u (take (x .waiting) s) q (x .finish))
     carry n u q h = (
       sym (take-take n (x .waiting) s h),
@@ -235,7 +235,7 @@ turn-stops bad good f own far x h = go (x .sides) h
     go (sides.Live side.Finished t) e = refl
     go (sides.Live side.Ended t) e = refl
 
--- and one that finds it ready is taken, with all that holds where it takes
+-- and one that finds it ready is taken, with all that holds if it takes
 pub turn-goes : {B : Type 0} (bad : ℕ → B) (good : Effect → B) (f : Taken → Effect) (own far : Ration) (x : Session) (P : Taken → Type 0) → readySession x ≡ true
     → Takes P (turnAsk own far x) → (t : Taken) × (settle bad good (andThen f (turnAsk own far x)) ≡ good (f t)) × P t
 unfolding turnAsk readySession settle

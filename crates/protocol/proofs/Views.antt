@@ -111,7 +111,7 @@ ready-look far x s h = go (x .sides)
 
 -- ---- well formed, item by item
 
--- where a far side, the first, is ended, ours is ended too, or finished at a client
+-- if a far side, the first, is ended, ours is ended too, or finished at a client
 abbrev pub pairs : Role → Side → Side → Bool
 pairs r side.Open o = true
 pairs r side.Finished o = true

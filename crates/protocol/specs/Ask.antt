@@ -1,4 +1,4 @@
--- What a local call does to its session, with which message; or 4, 5, 6, 7, 9, 12.
+-- What a local call does to its session, and with which message; or its refusal with 4, 5, 6, 7, 9 or 12.
 use Prim.Native.Nat.{ℕ, _-_, min}
 use mathlib.Core.Bool.{Bool, true, false, not, _&&_, _||_}
 use mathlib.Core.List.{[], _∷_}
@@ -50,7 +50,7 @@ openOf x (sides.Live side.Ended side.Ended) = silently (opened before.Ended x)
 unfoldable pub openAsk : Role → Session → Plan Taken
 openAsk r x = check (isServer r) 4 (openOf x (x .sides))
 
--- ---- put and finish need our side opening or open, no finish asked before
+-- ---- put and finish need our side opening or open, and no finish asked for before
 
 abbrev pub sends : Sides → Bool
 sends sides.Idle = false
@@ -59,14 +59,14 @@ sends (sides.Live side.Open theirs) = true
 sends (sides.Live side.Finished theirs) = false
 sends (sides.Live side.Ended theirs) = false
 
--- 6 for more than what the slot has left
+-- 6 for more bytes than the slot has left
 unfoldable pub putAsk : Session → ℕ → Plan Taken
 putAsk x n = check (not (sends (x .sides)) || x .finish) 5 (check (ltb (slotSize - x .waiting) n) 6 (silently (queued n x)))
 
 unfoldable pub finishAsk : Session → Plan Taken
 finishAsk x = check (not (sends (x .sides)) || x .finish) 5 (silently (finishing x))
 
--- ---- grant needs our side open or finished, theirs open
+-- ---- grant needs our side open or finished, and theirs open
 
 abbrev pub mayGrant : Sides → Bool
 mayGrant sides.Idle = false
@@ -87,13 +87,13 @@ grantAsk x n =
 
 -- ---- abort needs our side opening, or open or finished with theirs not ended, or theirs ended and ours open
 
--- the sides that stood before the open
+-- the sides before the open
 abbrev pub restored : Before → Sides
 restored before.Idle = sides.Idle
 restored before.Finished = sides.Live side.Finished side.Ended
 restored before.Ended = sides.Live side.Ended side.Ended
 
--- our side ends, what waited is dropped
+-- our side ends, and what waited is dropped
 abbrev pub aborting : Bool → Side → Session → Plan Taken
 aborting partial theirs x =
     writing (abort-of partial) (dropped (withSides (sides.Live side.Ended theirs) (settled outcome.MustNotRetry x)))
@@ -129,11 +129,11 @@ abbrev pub positive : Ration → Bool
 positive (ration.Finite n) = ltb 0 n
 positive ration.Endless = true
 
--- bytes waiting and ration above 0, or none waiting and finish asked
+-- bytes wait and the ration is above 0, or none wait and finish was asked for
 abbrev pub due : ℕ → Ration → Bool → Bool
 due waiting r finish = pick (eqb waiting 0) finish (positive r)
 
--- ready: opening; or open with bytes waiting and ration above 0; or open, none waiting, finish asked
+-- ready: opening; or open with bytes waiting and ration above 0; or open with none waiting and finish asked for
 abbrev pub readyIn : Session → Sides → Bool
 readyIn x sides.Idle = false
 readyIn x (sides.Opening b) = true
@@ -149,11 +149,11 @@ abbrev pub sendable : ℕ → Ration → ℕ
 sendable waiting (ration.Finite n) = min waiting n
 sendable waiting ration.Endless = waiting
 
--- eof exactly if finish was asked and nothing remains
+-- eof exactly if finish was asked for and nothing remains
 abbrev pub lastData : Session → ℕ → Bool
 lastData x n = x .finish && eqb (x .waiting - n) 0
 
--- a Data message of n bytes goes out: the rations that it leaves, and its flags
+-- a Data message of n bytes is sent: the rations that it leaves, and its flags
 abbrev pub sending : Session → Bool → Side → Ration → Ration → ℕ → Plan Taken
 sending x opens theirs outbound inbound n =
     writing (data-of n opens false (lastData x n) false)
@@ -169,6 +169,6 @@ turnOf own far x (sides.Live side.Open theirs) =
 turnOf own far x (sides.Live side.Finished theirs) = stop 9
 turnOf own far x (sides.Live side.Ended theirs) = stop 9
 
--- `own` and `far` are the starting rations that our header and theirs grant; open if opening
+-- `own` and `far` are the starting rations that our header and theirs grant; the message has the open flag if the session is opening
 unfoldable pub turnAsk : Ration → Ration → Session → Plan Taken
 turnAsk own far x = turnOf own far x (x .sides)

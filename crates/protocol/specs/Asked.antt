@@ -1,5 +1,5 @@
--- What the local side may ask of a session number, and with which number it is refused else; told from calls, answers and
--- messages. No value of the engine's state is named.
+-- What the local side may ask of a session number, and the number of the refusal otherwise; told from calls, answers and
+-- messages. No value of the engine's state appears.
 use Prim.Native.Nat.{ℕ, _+_}
 use mathlib.Core.Bool.{Bool, false, not, _&&_, _||_}
 use lib.ListN.{length}
@@ -23,7 +23,7 @@ mayAskOpen r v = isClient r && (mayOpen r (v .standing) && not (isUnsent (v .sen
 abbrev pub openNumber : Role → ℕ
 openNumber r = pick (isClient r) 5 4
 
--- finish: a session that sends, no finish asked (else 5)
+-- finish: a session that sends, with no finish asked for (else 5)
 abbrev pub sendsOn : Sending → Bool
 sendsOn silent = false
 sendsOn (sending unsent waiting r finish) = not finish
@@ -31,7 +31,7 @@ sendsOn (sending unsent waiting r finish) = not finish
 abbrev pub mayFinish : Role → Seen → Bool
 mayFinish r v = sendsOn (v .sends)
 
--- put: where finish may be asked (else 5), and no more than a slot waits then (else 6)
+-- put: where finish may be asked for (else 5), and then no more bytes wait than a slot holds (else 6)
 abbrev pub mayPut : Sending → ℕ → Bool
 mayPut silent n = false
 mayPut (sending unsent waiting r finish) n = not finish && leb (length waiting + n) slotSize

@@ -1,4 +1,4 @@
--- What each call decides. Checks go 14, 2, 1, 8, 3, 4, 5, 12, then 6, 7, 13, 9, 10.
+-- What each call decides. The order of the checks is 14, 2, 1, 8, 3, 4, 5, 12, then 6, 7, 13, 9, 10.
 use Prim.Native.Nat.{ℕ}
 use mathlib.Core.Bool.{Bool, true, false, not}
 use mathlib.Core.List.{List, [], _∷_}
@@ -29,11 +29,11 @@ use Rattle.protocol.specs.Judge.{done, served, header-received, Output, 
 abbrev pub running : {A : Type 0} → Connection → Plan A → Plan A
 running c rest = check (not (wellFormed c)) 14 (check (c .over) 2 rest)
 
--- 1 where the headers are not yet exchanged
+-- 1 if the headers are not yet exchanged
 abbrev pub upAndRunning : {A : Type 0} → Connection → Plan A → Plan A
 upAndRunning c rest = running c (check (not (exchanged (c .stage))) 1 rest)
 
--- 8 for less room than is asked, or a queue of another size
+-- 8 for less room than is needed, or a queue of another size
 abbrev pub roomFor : {A : Type 0} → ℕ → ℕ → Plan A → Plan A
 roomFor asked room rest = check (ltb room asked) 8 rest
 
@@ -44,7 +44,7 @@ queueOf queue rest = check (not (eqb queue queueSize)) 8 rest
 abbrev pub numberIn : {A : Type 0} → ℕ → Plan A → Plan A
 numberIn n rest = check (leb 128 n) 3 rest
 
--- what is asked of the session of a number
+-- what is asked of one session
 abbrev pub asking : Connection → ℕ → Plan Taken → Plan Effect
 asking c n p = andThen (setting-session c n (c .last) done) p
 
@@ -55,7 +55,7 @@ isFresh (stage.Fresh r) = true
 isFresh stage.Started = false
 isFresh (stage.Up r far) = false
 
--- client; 5 for a second start; writes our header
+-- for a client; 5 for a second start; writes our header
 unfoldable pub startRule : Connection → ℕ → Plan Effect
 startRule c room =
     running c
@@ -103,7 +103,7 @@ pingRule c cookie room =
     (roomFor 4 room
     (check (isOutstanding (c .ping)) 13 (take (setting-ping c (ping.Outstanding cookie) done (sent (msg.Ping cookie) ∷ [])))))
 
--- server
+-- for a server
 unfoldable pub shutdownRule : Connection → ℕ → Plan Effect
 shutdownRule c room =
     upAndRunning c
@@ -114,7 +114,7 @@ lostRule c = running c (take (ends-by c line-lost done []))
 
 -- ---- receive
 
--- a good first header makes a server write its own
+-- the reply to a good header: a server writes its own
 abbrev pub answering : Role → ℕ → List Output
 answering role.Client own = []
 answering role.Server own = header-out own ∷ []
@@ -129,7 +129,7 @@ messageTaken c (ok m) = judge c m
 messageTaken c (refused n) = refuse n
 messageTaken c (violation n) = breach c n
 
--- a connection header first, then messages of the other end
+-- a connection header first, then messages from the other end
 abbrev pub reading : Connection → List ℕ → Stage → Decision
 reading c input (stage.Fresh r) = headerTaken c r (readConnectionHeader input)
 reading c input stage.Started = headerTaken c role.Client (readConnectionHeader input)

@@ -1,4 +1,4 @@
--- One end of a connection: its parts, well formed, and how it ends.
+-- One end of a connection: its parts, when it is well formed, and how it ends.
 use Prim.Native.Nat.{ℕ}
 use mathlib.Core.Bool.{Bool, true, false, not, _&&_}
 use mathlib.Core.List.{List, [], _∷_, map}
@@ -56,15 +56,15 @@ farStart c = fromHeader (farNumber (c .stage))
 
 -- ---- well formed
 
--- waiting at most a slot
+-- at most a slot of bytes waits
 abbrev pub waitingFits : Session → Bool
 waitingFits x = leb (x .waiting) slotSize
 
--- and 0 unless our side is opening or open
+-- no bytes wait unless our side is opening or open
 abbrev pub waitingPlaced : Session → Bool
 waitingPlaced x = onlyIf (not (sends (x .sides))) (eqb (x .waiting) 0)
 
--- finish asked only there
+-- finish is asked for only while our side is opening or open
 abbrev pub finishPlaced : Session → Bool
 finishPlaced x = onlyIf (x .finish) (sends (x .sides))
 
@@ -83,7 +83,7 @@ unfoldable pub allFormed : Role → Bool → List Session → Bool
 allFormed r up [] = true
 allFormed r up (x ∷ xs) = sessionFormed r up x && allFormed r up xs
 
--- and last served at most 127
+-- the number served last is at most 127, and all sessions are well formed
 unfoldable pub wellFormed : Connection → Bool
 wellFormed c = ltb (c .last) 128 && allFormed (roleOf (c .stage)) (exchanged (c .stage)) (c .sessions)
 
@@ -105,6 +105,6 @@ ending error-received x = settled (unlessSent (x .sides)) x
 ending own-shutdown x = x
 ending line-lost x = settled (unlessSent (x .sides)) x
 
--- the connection is over; nothing else changes but outcomes
+-- the connection is over; nothing else changes except outcomes
 abbrev pub ended : Cause → Connection → Connection
 ended cause c = withOver true (withSessions (map (ending cause) (c .sessions)) c)

@@ -30,7 +30,7 @@ abbrev pub unlessUnsent : Bool → Fate
 unlessUnsent true = may-be-retried
 unlessUnsent false = must-not-be-retried
 
--- an Abort received tells by its partial flag
+-- the partial flag of a received Abort decides
 abbrev pub byPartial : Bool → Fate
 byPartial true = must-not-be-retried
 byPartial false = may-be-retried
@@ -40,7 +40,7 @@ abbrev pub byClose : Bool → Fate → Fate
 byClose true f = ifRunning f complete
 byClose false f = f
 
--- an open starts it anew, and a session that a server accepts has none; `unsent` says whether an open of ours is unsent
+-- an open starts it anew, and a session that a server accepts has no fate; `unsent` says whether an open of ours is unsent
 abbrev pub fateAfter : Bool → Fate → Event → Fate
 fateAfter unsent f opens = running
 fateAfter unsent f finishes = f
@@ -59,7 +59,7 @@ fateAfter unsent f (wrote m) = f
 pub data Ended : Type 0 where
   not-ended by-shutdown by-error by-own-shutdown by-lost-line : Ended
 
--- a Shutdown received: may be retried; an Error received or a lost line: not, where it was sent; our own shutdown changes nothing
+-- a Shutdown received: may be retried; an Error received or a lost line: not if it was sent; our own shutdown changes nothing
 abbrev pub fateEnded : Seen → Ended → Fate → Fate
 fateEnded v not-ended f = f
 fateEnded v by-shutdown f = ifRunning f may-be-retried

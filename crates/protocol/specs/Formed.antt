@@ -17,7 +17,7 @@ use Rattle.state.specs.declared.Stage.the-variants as stage
 use Rattle.state.specs.declared.Connection.{Connection}
 use Rattle.state.specs.New.{blank}
 
--- what is asked of a number unless our side is opening or open
+-- what must hold of a number unless our side is opening or open
 abbrev pub Unless : Sides → Type 0 → Type 0
 Unless sides.Idle item = item
 Unless (sides.Opening b) item = Unit {0}

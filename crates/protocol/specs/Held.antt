@@ -15,9 +15,9 @@ use Rattle.state.specs.declared.Ping.{Ping}
 use Rattle.state.specs.declared.Ping.the-variants as ping
 use Rattle.protocol.specs.Observed.{Greeting, no-header, own-header, both-headers, Pinging, no-ping, pinged, Sending, silent, sending, Ends, unused, ends, Seen}
 
--- ---- of a session number
+-- ---- about a session number
 
--- an opening leaves the ends of the session before it
+-- an opening keeps the ends of the session before it
 abbrev pub endsOf : Sides → Ends
 endsOf sides.Idle = unused
 endsOf (sides.Opening before.Idle) = unused
@@ -42,7 +42,7 @@ look far x s =
       inbound = x .inbound;
     }
 
--- ---- of the connection
+-- ---- about the connection
 
 abbrev pub greetingOf : Stage → Greeting
 greetingOf (stage.Fresh r) = no-header

@@ -1,4 +1,4 @@
--- What a call that is taken does and reports, what a violation does, and the judging of a message received, which sees no bytes.
+-- What a call that is taken does and reports, what a violation does, and the judging of a received message, which sees no bytes.
 use Prim.Native.Nat.{ℕ}
 use mathlib.Core.Bool.{Bool, false, not}
 use mathlib.Core.List.{List, [], _∷_, map}
@@ -45,7 +45,7 @@ pub record Effect : Type 0 where
   pub report : Report
   pub outs : List Output
 
--- a violation carries how the connection ends by it, and its reply
+-- a violation has its number, the way in which it ends the connection, and its reply
 pub record Breach : Type 0 where
   pub code : ℕ
   pub cause : Cause
@@ -61,7 +61,7 @@ pub data Decision : Type 0 where
 abbrev pub effect : ℕ → Session → Stage → ℕ → Ping → Ending → Report → List Output → Effect
 effect n x s last p e r outs = record { number = n; session = x; stage = s; last = last; ping = p; ending = e; report = r; outs = outs }
 
--- nothing changes but what is said
+-- nothing changes; there is only a report and what is written
 abbrev pub unchanged : Connection → Report → List Output → Effect
 unchanged c r outs = effect 0 (at c 0) (c .stage) (c .last) (c .ping) goes-on r outs
 
@@ -74,7 +74,7 @@ setting-ping c p r outs = effect 0 (at c 0) (c .stage) (c .last) p goes-on r out
 abbrev pub setting-stage : Connection → Stage → Report → List Output → Effect
 setting-stage c s r outs = effect 0 (at c 0) s (c .last) (c .ping) goes-on r outs
 
--- what was taken for one session: the connection adds the number to what is written
+-- the step taken for one session: the connection adds the number to what is written
 abbrev pub setting-session : Connection → ℕ → ℕ → Report → Taken → Effect
 setting-session c n last r t = effect n (t .session) (c .stage) last (c .ping) goes-on r (map (λ m. sent (numbered n m)) (t .sent))
 

@@ -1,5 +1,5 @@
--- The ways in which the wait of a number lapses by what happens to the number itself: its abort is taken, or an Abort, a Close or Data
--- with the close flag is received for it.
+-- The ways in which the wait of a number lapses because of what happens to the number itself: its abort is taken, or an Abort, a Close or
+-- Data with the close flag is received for it.
 use Prim.Native.Nat.{ℕ}
 use mathlib.Core.Path.{_≡_}
 use mathlib.Core.Bool.{Bool, true, false}
@@ -13,7 +13,7 @@ pub data Lapsing : Event → Type 0 where
   close-comes : Lapsing (received close-of)
   close-flag-comes : (n : ℕ) (begins eof ack : Bool) → Lapsing (received (data-of n begins true eof ack))
 
--- the events by which no wait lapses
+-- the events by which a wait does not lapse
 pub record Lasting : Type 0 where
   pub by-open : lapses opens ≡ false
   pub by-finish : lapses finishes ≡ false

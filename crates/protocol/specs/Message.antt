@@ -17,7 +17,7 @@ pub data SessionMessage : Type 0 where
   abort-of : Bool → SessionMessage
   close-of acknowledgment-of : SessionMessage
 
--- a message of the connection as a whole, or one of a session's with its number
+-- a message of the connection as a whole, or one of a session, with its number
 pub data Scope : Type 0 where
   whole : ConnectionMessage → Scope
   of-session : ℕ → SessionMessage → Scope

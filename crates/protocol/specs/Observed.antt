@@ -1,5 +1,5 @@
--- What calls, their answers and the messages on the line tell of the connection and of one session number. No value of the
--- engine's state is named.
+-- What calls, their answers and the messages on the line tell about the connection and one session number. No value of the
+-- engine's state appears.
 use Prim.Native.Nat.{ℕ, _-_}
 use mathlib.Core.Bool.{Bool, true, false, not, _&&_, _||_}
 use mathlib.Core.List.{List, [], _∷_, _++_}
@@ -111,7 +111,7 @@ isReady silent = false
 isReady (sending true waiting r finish) = true
 isReady (sending false waiting r finish) = not (isEmpty waiting) && anyLeft r || isEmpty waiting && finish
 
--- what ends a wait beside the number's own Data: its abort, or an Abort, Close or close flag received
+-- what ends a wait other than the number's own Data: its abort, or an Abort, Close or close flag received
 abbrev pub lapses : Event → Bool
 lapses opens = false
 lapses finishes = false
@@ -128,14 +128,14 @@ abbrev pub anyLapse : List Event → Bool
 anyLapse [] = false
 anyLapse (e ∷ es) = lapses e || anyLapse es
 
--- ---- where each end stands, in the words of the published protocol, "Sessions"
+-- ---- the state of each end, in the words of the published protocol, "Sessions"
 
 -- the session that a number last named: established with respect to an end (open), also finished, or terminated (ended)
 pub data Ends : Type 0 where
   unused : Ends
   ends : Side → Side → Ends
 
--- our end, the other stays
+-- our end changes, the other stays
 abbrev pub ours : Side → Ends → Ends
 ours s unused = unused
 ours s (ends o t) = ends s t
@@ -155,7 +155,7 @@ unfinished side.Open = true
 unfinished side.Finished = false
 unfinished side.Ended = false
 
--- where Data leaves its sender: the close flag terminates, eof finishes
+-- the sender's end after Data: the close flag terminates, eof finishes
 abbrev pub dataLeaves : Bool → Bool → Side
 dataLeaves true eof = side.Ended
 dataLeaves false true = side.Finished
@@ -235,7 +235,7 @@ observe own far v e =
 
 -- ---- what is answered
 
--- a message that ends its session is answered with an Abort where our end is unfinished, and at a server also where it is
+-- a message that ends its session is answered with an Abort if our end is unfinished, and at a server also if our end is
 -- finished and an Abort comes
 abbrev pub answered : Role → Side → SessionMessage → Bool
 answered r o (data-of n begins close eof ack) = not begins && close && unfinished o
@@ -254,7 +254,7 @@ repliesTo r v m = repliesAt r (v .standing) m
 
 -- ---- what a turn sends
 
--- as many bytes as wait, or as the ration has left where that is less
+-- as many bytes as wait, or as many as the ration has left if that is less
 abbrev pub dueLength : ℕ → Ration → ℕ
 dueLength waiting (ration.Finite n) = pick (leb waiting n) waiting n
 dueLength waiting ration.Endless = waiting
@@ -275,12 +275,12 @@ finished side.Open = false
 finished side.Finished = true
 finished side.Ended = false
 
--- a client may use the number anew: terminated with respect to the server, and to the client or finished by it
+-- a client may use the number anew: terminated with respect to the server, and terminated with respect to the client or finished by it
 abbrev pub reusable : Side → Side → Bool
 reusable client server = not (established server) && not (unfinished client)
 
--- a message other than an open Data, from an end to the other; `r` is the ration of what it sends, `back` that of what it receives.
--- The published protocol, "Acknowledgment Message", asks of an Acknowledgment also that it was required: that is not looked at
+-- a message other than an open Data, from one end to the other; `r` is the ration of what it sends, `back` that of what it receives.
+-- The published protocol, "Acknowledgment Message", also requires that an Acknowledgment was asked for: that is not checked
 abbrev pub permits : Side → Side → Ration → Ration → SessionMessage → Bool
 permits sender receiver r back (data-of n begins close eof ack) =
     not begins && unfinished sender && onlyIf (established receiver) (allows r n)
@@ -293,7 +293,7 @@ abbrev pub rationOf : Sending → Ration
 rationOf silent = ration.Finite 0
 rationOf (sending unsent waiting r finish) = r
 
--- whether a client may open the number, seen from the end of a role
+-- whether a client may open the number, as seen from an end with this role
 abbrev pub mayOpen : Role → Ends → Bool
 mayOpen r unused = true
 mayOpen role.Client (ends o t) = reusable o t
@@ -312,12 +312,12 @@ permitsOurs r unused v m = false
 permitsOurs r (ends o t) v m =
     onlyIf (not (established t) && (unfinished o || isServer r)) (isAbort m) && permits o t (rationOf (v .sends)) (v .inbound) m
 
--- the far end may not know yet that we have terminated the session, so that is not looked at
+-- the far end may not know yet that we have terminated the session, so that is not checked
 abbrev pub permitsTheirs : Ends → Seen → SessionMessage → Bool
 permitsTheirs unused v m = false
 permitsTheirs (ends o t) v m = permits t o (v .inbound) (rationOf (v .sends)) m
 
--- of an open Data message what is said of its length, of another message the rest
+-- for an open Data message the value for its length, for any other message the other value
 abbrev pub ifOpens : {A : Type 0} → SessionMessage → (ℕ → A) → A → A
 ifOpens (data-of n true close eof ack) begun rest = begun n
 ifOpens (data-of n false close eof ack) begun rest = rest
@@ -326,15 +326,15 @@ ifOpens (abort-of partial) begun rest = rest
 ifOpens close-of begun rest = rest
 ifOpens acknowledgment-of begun rest = rest
 
--- our end may send the message now; an open Data of a client's spends the far start
+-- our end may send the message now; a client's open Data spends the far start
 abbrev pub mayWrite : Role → Ration → Seen → SessionMessage → Bool
 mayWrite r far v m = ifOpens m (λ n. isClient r && mayOpen r (v .standing) && allows far n) (permitsOurs r (v .standing) v m)
 
--- the far end may send the message now; an open Data of a client's spends our start
+-- the far end may send the message now; a client's open Data spends our start
 abbrev pub mayArrive : Role → Ration → Seen → SessionMessage → Bool
 mayArrive r own v m = ifOpens m (λ n. isServer r && mayOpen r (v .standing) && allows own n) (permitsTheirs (v .standing) v m)
 
--- ---- why a message may not arrive: it is wrong where the session stands (25), above the ration (26), or past the largest (27)
+-- ---- why a message may not arrive: it is wrong for the state of the session (25), above the ration (26), or past the largest (27)
 
 abbrev pub wrongOf : Ends → SessionMessage → ℕ
 wrongOf unused m = 25

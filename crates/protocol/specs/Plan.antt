@@ -7,7 +7,7 @@ pub data Plan (A : Type 0) : Type 0 where
   check : Bool → ℕ → Plan A → Plan A
   take : A → Plan A
 
--- what a rule comes to, where a check that holds gives `bad` of its number
+-- the result of a rule, where a check that holds gives `bad` of its number
 unfoldable pub settle : {A B : Type 0} → (ℕ → B) → (A → B) → Plan A → B
 settle bad good (stop n) = bad n
 settle bad good (check true n p) = bad n

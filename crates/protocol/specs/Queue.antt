@@ -4,7 +4,7 @@ use mathlib.Core.List.{List, _++_}
 use lib.ListN.{length, take, drop, replicate}
 use Rattle.protocol.specs.Slot.{slotSize}
 
--- the slot of a number; waiting bytes stand first in it
+-- the slot of a number; waiting bytes are first in it
 abbrev pub slot : ℕ → List ℕ → List ℕ
 slot n queue = take slotSize (drop (n * slotSize) queue)
 
@@ -16,14 +16,14 @@ withSlot n s queue = take (n * slotSize) queue ++ s ++ drop (n * slotSize + slot
 abbrev pub padded : List ℕ → List ℕ
 padded bytes = bytes ++ replicate (slotSize - length bytes) 0
 
--- a put: the bytes stand behind those that wait
+-- a put: the bytes go behind those that wait
 abbrev pub afterPut : ℕ → List ℕ → List ℕ → List ℕ
 afterPut waiting bytes s = take waiting s ++ bytes
 
 abbrev pub putSlot : ℕ → List ℕ → List ℕ → List ℕ
 putSlot waiting bytes s = padded (afterPut waiting bytes s)
 
--- a turn: the first n bytes that wait are gone, the others stand first
+-- a turn: the first n waiting bytes are gone, and the others move to the front
 abbrev pub afterTurn : ℕ → ℕ → List ℕ → List ℕ
 afterTurn waiting n s = take (waiting - n) (drop n s)
 

@@ -1,4 +1,4 @@
--- What a message received does to its session, late or not, with which reply; or 25, 26, 27.
+-- What a received message does to its session, late or not, and with which reply; or its violation, 25, 26 or 27.
 use Prim.Native.Nat.{ℕ}
 use mathlib.Core.Bool.{Bool, true, false, not}
 use mathlib.Core.List.{List, [], _∷_}
@@ -47,7 +47,7 @@ abbrev pub aborted : Bool → Outcome
 aborted true = outcome.MustNotRetry
 aborted false = outcome.MayRetry
 
--- Data that our ended side gets is late: not counted, 26 not asked; a close flag gets a reply where our side is open
+-- Data to our ended side is late: it is not counted and not checked for 26; a close flag gets a reply if our side is open
 abbrev pub dataTo : Role → Session → ℕ → Bool → Side → Side → Plan Taken
 dataTo r x n close side.Ended theirs = lately (closed close (withSides (sides.Live side.Ended theirs) x))
 dataTo r x n close side.Finished theirs =
@@ -57,27 +57,27 @@ dataTo r x n true side.Open theirs =
 dataTo r x n false side.Open theirs =
     check (not (allows (x .inbound) n)) 26 (quietly (inboundSpent n (withSides (sides.Live side.Open theirs) x)))
 
--- an increment that our finished or ended side gets is late and changes nothing
+-- an increment to our finished or ended side is late and changes nothing
 abbrev pub incrementTo : Session → ℕ → Side → Side → Plan Taken
 incrementTo x n side.Open theirs =
     check (not (inRange (plus (x .outbound) n))) 27 (quietly (incremented n (withSides (sides.Live side.Open theirs) x)))
 incrementTo x n side.Finished theirs = lately (withSides (sides.Live side.Finished theirs) x)
 incrementTo x n side.Ended theirs = lately (withSides (sides.Live side.Ended theirs) x)
 
--- an Abort gets a reply where our side is open, or is a server's finished side
+-- an Abort gets a reply if our side is open, or is a server's finished side
 abbrev pub abortTo : Role → Session → Side → Side → Plan Taken
 abortTo r x side.Open theirs = replying r theirs x
 abortTo role.Client x side.Finished theirs = quietly (withSides (sides.Live side.Finished theirs) x)
 abortTo role.Server x side.Finished theirs = replying role.Server theirs x
 abortTo r x side.Ended theirs = quietly (withSides (sides.Live side.Ended theirs) x)
 
--- a Close gets a reply where our side is open
+-- a Close gets a reply if our side is open
 abbrev pub closeTo : Role → Session → Side → Side → Plan Taken
 closeTo r x side.Open theirs = replying r theirs x
 closeTo r x side.Finished theirs = quietly (withSides (sides.Live side.Finished theirs) x)
 closeTo r x side.Ended theirs = quietly (withSides (sides.Live side.Ended theirs) x)
 
--- a message to our side, and where it leaves the side that sent it
+-- a message to our side, with the move of the side that sent it
 abbrev pub arriving : Role → Session → SessionMessage → Side → Move → Plan Taken
 arriving r x m ours wrong = stop 25
 arriving r x (data-of n opens close eof ack) ours (to theirs) = dataTo r x n close ours theirs
@@ -102,7 +102,7 @@ acceptable (sides.Live side.Ended side.Open) = false
 acceptable (sides.Live side.Ended side.Finished) = true
 acceptable (sides.Live side.Ended side.Ended) = true
 
--- a session just accepted: both rations are set from the headers, then the length is spent; nothing of what stood is kept
+-- a session just accepted: both rations are set from the headers, then the length is spent; nothing of the earlier session is kept
 abbrev pub accepted : Ration → Ration → ℕ → Bool → Bool → Session
 accepted own far n close eof =
     withSides (sides.Live side.Open (afterData close eof)) (withRations far (minus own n) blank)

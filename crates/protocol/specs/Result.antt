@@ -62,7 +62,7 @@ pub record Extent : Type 0 where
 abbrev pub noInput : Extent
 noInput = record { used = 0; start = 0; end = 0 }
 
--- a message taken uses 4 bytes plus its length, a header 8
+-- a message that is taken uses 4 bytes plus its length, a header 8
 abbrev pub extentOf : Report → Extent
 extentOf done = noInput
 extentOf (served n) = noInput
@@ -85,7 +85,7 @@ writtenBy payload (accept e) = bytesOfAll payload (e .outs)
 
 -- ---- what a decision gives
 
--- what is said of an effect where the call is taken, else what was
+-- the new value, from the effect, if the call is taken, else the old one
 abbrev pub ifTaken : {A : Type 0} → Decision → (Effect → A) → A → A
 ifTaken (refuse n) new old = old
 ifTaken (violate b) new old = old
@@ -101,7 +101,7 @@ givenIn c payload x (refuse n) = giving c (refused n) noInput []
 givenIn c payload x (violate b) = giving (ended (b .cause) c) (violation (b .code)) noInput (bytesOfAll payload (b .reply))
 givenIn c payload x (accept e) = giving (commit c e) (ok (e .report)) x (bytesOfAll payload (e .outs))
 
--- as much of the input as the report tells of
+-- as much of the input is used as the report says
 abbrev pub given : Connection → List ℕ → Decision → Given
 given c payload d = givenIn c payload (ifTaken d (λ e. extentOf (e .report)) noInput) d
 

@@ -1,4 +1,4 @@
--- A session, seen from one end: its sides, how its own messages move a side, and the ways in which a session changes.
+-- A session, seen from one end: its sides, how a message moves the side that sends it, and the ways in which a session changes.
 use Prim.Native.Nat.{ℕ, _+_}
 use mathlib.Core.Bool.{Bool, true, false}
 use Rattle.ration.specs.Ration.{plus, minus}
@@ -18,12 +18,12 @@ afterData true eof = side.Ended
 afterData false true = side.Finished
 afterData false false = side.Open
 
--- where a message other than an open Data leaves the side that sends it
+-- how a message other than an open Data moves the side that sends it
 pub data Move : Type 0 where
   to : Side → Move
   wrong : Move
 
--- any message from an ended side is wrong, Data from a finished one, Close from an unfinished one
+-- any message from an ended side is wrong, and so are Data from a finished side and Close from an unfinished one
 abbrev pub follow : Side → SessionMessage → Move
 follow side.Open (data-of n true close eof ack) = wrong
 follow side.Open (data-of n false close eof ack) = to (afterData close eof)
@@ -50,7 +50,7 @@ becomes outcome.MustNotRetry new = outcome.MustNotRetry
 
 -- ---- the ways in which a session changes
 
--- nothing waits and no finish is asked
+-- nothing waits and no finish is asked for
 abbrev pub dropped : Session → Session
 dropped x = withWaiting 0 false x
 
@@ -69,7 +69,7 @@ incremented n x = withRations (plus (x .outbound) n) (x .inbound) x
 abbrev pub extended : ℕ → Session → Session
 extended n x = withRations (x .outbound) (plus (x .inbound) n) x
 
--- n bytes more wait
+-- n more bytes wait
 abbrev pub queued : ℕ → Session → Session
 queued n x = withWaiting (x .waiting + n) (x .finish) x
 

@@ -7,6 +7,6 @@ slotSize = 256
 abbrev pub queueSize : ℕ
 queueSize = 128 * slotSize
 
--- the room that a turn asks for: a header and a slot
+-- the room that a turn needs: a header and a slot
 abbrev pub turnRoom : ℕ
 turnRoom = 4 + slotSize

@@ -24,7 +24,7 @@ grants n l = record { granted = l .granted + n; spent = l .spent }
 abbrev pub spends : ℕ → Ledger → Ledger
 spends n l = record { granted = l .granted; spent = l .spent + n }
 
--- of what we send: increments taken, Data written
+-- for what we send: increments taken, Data written
 abbrev pub sendingAfter : Ledger → Event → Ledger
 sendingAfter l opens = blankLedger
 sendingAfter l finishes = l
@@ -49,7 +49,7 @@ countedIn (ends side.Open t) n l = spends n l
 countedIn (ends side.Finished t) n l = spends n l
 countedIn (ends side.Ended t) n l = l
 
--- of what we receive: increments written, Data taken and not late
+-- for what we receive: increments written, Data taken and not late
 abbrev pub receivingAfter : Ends → Ledger → Event → Ledger
 receivingAfter st l opens = l
 receivingAfter st l finishes = l
@@ -75,7 +75,7 @@ Balanced (ration.Finite start) l ration.Endless = ⊥
 Balanced ration.Endless l (ration.Finite now) = ⊥
 Balanced ration.Endless l ration.Endless = Unit {0}
 
--- n bytes more are no more than the start and what was granted
+-- n more bytes are within the start and what was granted
 abbrev pub Covers : Ration → Ledger → ℕ → Type 0
 Covers (ration.Finite start) l n = l .spent + n ≤ start + l .granted
 Covers ration.Endless l n = Unit {0}

@@ -25,7 +25,7 @@ pub spend-refused : (r : Ration) (n : ℕ) → allows r n ≡ false → spend r 
 unfolding spend
 spend-refused r n e = no _ _ _ e
 
--- after a spend, what is left and what was spent make what stood before
+-- after a spend, what is left and what was spent add up to the ration before
 pub spend-left : (r s : Ration) (n : ℕ) → spend r n ≡ Left s → plus s n ≡ r
 unfolding spend pick
 spend-left r s n q = go (allows r n) refl q
@@ -62,7 +62,7 @@ pub grow-refused : (r : Ration) (n : ℕ) → inRange (plus r n) ≡ false → g
 unfolding grow
 grow-refused r n e = no _ _ _ e
 
--- after growing, the ration is what stood before and what it grew by, and in range
+-- after growing, the ration is the one before plus what it grew by, and in range
 pub grow-to : (r s : Ration) (n : ℕ) → grow r n ≡ To s → (s ≡ plus r n) × (inRange s ≡ true)
 unfolding grow pick
 grow-to r s n q = go (inRange (plus r n)) refl q

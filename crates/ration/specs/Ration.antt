@@ -23,30 +23,30 @@ abbrev pub inRange : Ration → Bool
 inRange (Finite left) = leb left largest
 inRange Endless = true
 
--- a length is allowed that is not above the ration
+-- a length is allowed if it is not above the ration
 abbrev pub allows : Ration → ℕ → Bool
 allows (Finite left) n = leb n left
 allows Endless n = true
 
--- n bytes more; an endless ration stays endless
+-- n more bytes; an endless ration stays endless
 abbrev pub plus : Ration → ℕ → Ration
 plus (Finite left) n = Finite (left + n)
 plus Endless n = Endless
 
--- n bytes less, where they are allowed; an endless ration stays endless
+-- n fewer bytes, if they are allowed; an endless ration stays endless
 abbrev pub minus : Ration → ℕ → Ration
 minus (Finite left) n = Finite (left - n)
 minus Endless n = Endless
 
--- what is left after n bytes, where they are allowed; else there is not enough
+-- what is left after n bytes, if they are allowed; else there is not enough
 unfoldable pub spend : Ration → ℕ → Spent
 spend r n = pick (allows r n) (Left (minus r n)) NotEnough
 
--- the sum with n bytes more, where it is in range; else the largest would be passed
+-- the sum with n more bytes, if it is in range; else the largest would be passed
 unfoldable pub grow : Ration → ℕ → Grown
 grow r n = pick (inRange (plus r n)) (To (plus r n)) PastLargest
 
--- a grant is refused where the ration is endless, or the sum is above the largest
+-- a grant is refused if the ration is endless, or the sum is above the largest
 abbrev pub grantable : Ration → ℕ → Bool
 grantable (Finite left) n = inRange (Finite (left + n))
 grantable Endless n = false

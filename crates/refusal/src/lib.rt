@@ -22,7 +22,7 @@ pub enum Refusal {
     WrongRoom,
     // No session is ready.
     NothingReady,
-    // The message or header is not all there.
+    // The message or header is not complete.
     Incomplete,
     // A value is outside its range.
     BadValue,
@@ -38,9 +38,9 @@ pub enum Violation {
     UnknownType,
     // A reserved bit is set.
     ReservedBit,
-    // The eight bytes are no connection header.
+    // The eight bytes are not a connection header.
     BadHeader,
-    // The message is not for this sender to send.
+    // This sender may not send the message.
     WrongSender,
     // A flag is set that this sender may not set, or not without another.
     WrongFlags,

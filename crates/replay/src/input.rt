@@ -30,7 +30,7 @@ impl Place {
         }
     }
 
-    // The place with the line from here to an index, counted; it is none where its start is gone.
+    // The place with the line from here to an index, and that line counted; a line whose start is gone is empty and not counted.
     fn with_line(mut self, end: usize) -> Place {
         self.end = end;
         if self.inside {
@@ -43,7 +43,7 @@ impl Place {
         self
     }
 
-    // The place behind the line that ends at an index: a line break, the end of a full buffer or that of the input.
+    // The place behind the line that ends at an index: at a line break, at the end of a full buffer, or at the end of the input.
     fn behind(self, end: usize) -> Place {
         let mut next = self.with_line(end);
         if end < next.to {
@@ -152,7 +152,7 @@ fn read_more(place: Place, input: &mut [u8]) -> Place {
     place.stopped()
 }
 
-// The place behind one line more, or behind none after a read of more.
+// The place behind the next line, or the place after a read if that line is not all there yet.
 pub(crate) fn next(place: Place, input: &mut [u8]) -> Place {
     let end = line_end(input, place);
     if place.is_whole(end, input.len()) {

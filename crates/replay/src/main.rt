@@ -1,7 +1,7 @@
 // Plays a script of calls on one connection, and writes what each call answers.
 //
 // The script is on standard input, and the lines go to standard output; the reason of a script error goes to standard error. It is
-// run on two sessions of a client, and is held to lines that are made by hand from the rules; scripts/ has more.
+// tested on two sessions of a client, against lines that are made by hand from the rules; scripts/ has more.
 mod input;
 mod play;
 mod reason;
@@ -27,7 +27,7 @@ fn run_all(input: &mut [u8], queue: &mut [u8], room: &mut [u8]) {
     }
 }
 
-// The usage line: on standard output where `--help` asks for it, on standard error for any other argument.
+// Prints the usage line: on standard output for `--help`, on standard error for any other argument.
 fn usage() {
     let mut word = [0u8; 7];
     let n = os::arg(1, &mut word);

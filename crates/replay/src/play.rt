@@ -11,7 +11,7 @@ use script_lines::Call;
 use script_lines::Command;
 use text_line::first;
 
-// The byte that stands in the room before each call.
+// The byte that fills the room before each call.
 const MARK: u8 = 0xee;
 
 // The connection, the length of its queue, whether the script has made it, and how far the script is read.
@@ -23,7 +23,7 @@ pub(crate) struct Play {
 }
 
 impl Play {
-    // Before the first line.
+    // The state before the first line.
     pub(crate) fn new() -> Play {
         Play {
             connection: Connection::new(Setup {
@@ -36,7 +36,7 @@ impl Play {
         }
     }
 
-    // With a new connection, and a queue of a length.
+    // The state with a new connection, and a queue of a length.
     fn begun(mut self, setup: Setup, queue: usize) -> Play {
         let connection = Connection::new(setup);
         self.connection = connection;
@@ -55,7 +55,7 @@ impl Play {
         place.going
     }
 
-    // A line that the format does not have ends the run.
+    // Stops the run at a line that the format does not have.
     fn stopped_by_error(self, line: &[u8]) -> Play {
         let place = self.place;
         show::script_error(place.line);
@@ -84,7 +84,7 @@ fn receive(c: Connection, line: &[u8], room: &mut [u8]) -> Called {
     engine::receive(c, first(&data, k), room)
 }
 
-// The call itself.
+// Makes the call itself.
 fn call(c: Connection, call: Call, line: &[u8], queue: &mut [u8], room: &mut [u8]) -> Called {
     match call {
         Call::Start => engine::start(c, room),
@@ -102,13 +102,13 @@ fn call(c: Connection, call: Call, line: &[u8], queue: &mut [u8], room: &mut [u8
     }
 }
 
-// The line that tells of a call.
+// Prints the line of a call.
 fn tell(line: &[u8], called: Called, room: &[u8]) {
     let spoiled = !engine_marks::is_filled(room, called.wrote, MARK);
     show::called(line, called, room, spoiled);
 }
 
-// The call in the room that it is lent.
+// Makes the call in the room that it is lent.
 fn in_room(mut play: Play, asked: Call, line: &[u8], queue: &mut [u8], room: &mut [u8]) -> Play {
     engine_marks::fill(room, MARK);
     let c = play.connection;
@@ -119,7 +119,7 @@ fn in_room(mut play: Play, asked: Call, line: &[u8], queue: &mut [u8], room: &mu
     play
 }
 
-// The call with the queue at its length and the first n bytes of the room lent.
+// Makes the call with the queue at its length and the first n bytes of the room.
 fn with_room(
     play: Play,
     asked: Call,
@@ -137,7 +137,7 @@ fn with_room(
     play.stopped_by_error(line)
 }
 
-// What a line behind the first asks: a call, or a print of what stands, the connection and its sessions or a slot of the queue.
+// Plays a line after the first: it makes a call, or prints the current state or a slot of the queue.
 fn made_line(play: Play, line: &[u8], queue: &mut [u8], room: &mut [u8]) -> Play {
     let asked = script_lines::command_of(line);
     match asked {
@@ -149,7 +149,7 @@ fn made_line(play: Play, line: &[u8], queue: &mut [u8], room: &mut [u8]) -> Play
     play
 }
 
-// What a line does: it may be skipped, make the connection or ask for something.
+// Plays a line: it may be skipped, make the connection or ask for something.
 pub(crate) fn line(play: Play, line: &[u8], queue: &mut [u8], room: &mut [u8]) -> Play {
     if script_words::is_skipped(line) {
         return play;

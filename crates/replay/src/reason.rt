@@ -40,7 +40,7 @@ fn has_space_at_an_end(line: &[u8]) -> bool {
     (line[0] == b' ') | (line[n - 1] == b' ')
 }
 
-// The form of a line whose words are a name, a session number and what the call asks more; false where the name is none of these.
+// Prints the form of a line of a name, a session number and what else the call needs; false if the name is not one of these.
 fn session_form(name: &[u8]) -> bool {
     if is(name, b"open") {
         words(b"expected open ID, ID at most 255");
@@ -66,7 +66,7 @@ fn session_form(name: &[u8]) -> bool {
     true
 }
 
-// The form of any other line behind the first; false where the name is none of these.
+// Prints the form of any other line after the first; false if the name is not one of these.
 fn other_form(name: &[u8]) -> bool {
     if is(name, b"start") {
         words(b"expected start [ROOM], ROOM at most 66000");
@@ -90,7 +90,7 @@ fn other_form(name: &[u8]) -> bool {
     true
 }
 
-// The form of a line with the name that it begins with.
+// Prints the form of a line that begins with this name.
 fn form(name: &[u8]) {
     if session_form(name) {
         return;
@@ -101,7 +101,7 @@ fn form(name: &[u8]) {
     words(b"no call has this name");
 }
 
-// Why a line is none of a script: the first line of a script makes the connection, the others are calls.
+// Prints why a line is not a line of a script: the first line of a script makes the connection, the others are calls.
 fn why(line: &[u8], first: bool) {
     if !is_plain(line) {
         words(b"a byte that no word has");
@@ -118,7 +118,7 @@ fn why(line: &[u8], first: bool) {
     }
 }
 
-// The reason of a script error, with the number of its line.
+// Prints the reason of a script error, with the number of its line.
 pub(crate) fn tell(line: &[u8], number: u64, first: bool) {
     words(b"line ");
     io::print_decimal(STDERR_FILENO, number);

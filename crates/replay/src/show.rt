@@ -20,7 +20,7 @@ fn put(line: Line) {
     words(first(&bytes, n));
 }
 
-// The digits of at most the first 512 bytes.
+// Prints the digits of at most the first 512 bytes.
 fn put_some(s: &[u8]) {
     let mut digits = [0u8; 1024];
     let n = script_words::to_hex(s, &mut digits);
@@ -40,14 +40,14 @@ fn end(line: Line, spoiled: bool) {
     put(line.flag(b" spoiled", spoiled).text(b"\n"));
 }
 
-// The line of a call that wrote something.
+// Prints the line of a call that wrote something.
 fn wrote(line: Line, s: &[u8], spoiled: bool) {
     put(line.text(b" wrote "));
     put_some(s);
     end(Line::new(), spoiled);
 }
 
-// The line of a call, which the line of a script asks for.
+// Prints the line of a call, which a line of the script asks for.
 pub(crate) fn called(line: &[u8], called: Called, room: &[u8], spoiled: bool) {
     let answer = called.answer;
     let told = answered(line, answer, called.used);
@@ -74,7 +74,7 @@ fn sessions(table: [Session; 128]) {
     }
 }
 
-// The lines of what stands.
+// Prints the lines of the current state.
 pub(crate) fn state(c: Connection) {
     put(text_state::connection_line(c).text(b"\n"));
     let table = c.sessions;
@@ -90,7 +90,7 @@ fn slot_bytes(s: &[u8]) {
     }
 }
 
-// The slot of a session number in the queue.
+// Prints the slot of a session number in the queue.
 pub(crate) fn slot(queue: &[u8], n: u8) {
     let size = SLOT_SIZE as usize;
     let from = (n as usize) * size;

@@ -14,7 +14,7 @@ use Rattle.history.specs.Log.{Call, finish, close, log}
 use Rattle.history.specs.Claims.{mayCome}
 use Rattle.runs.proofs.Played.{played, server, zeros, queue, receives, turns, taken, refuses, breaks}
 
--- the input is read as a message that may not come after the calls, and the next entry says the violation
+-- the input is read as a message that may not come after the calls, and the next entry reports the violation
 pub record Breaks (calls : List Call) (input : List ℕ) (m : Message) (n : ℕ) : Type 0 where
   pub is-read : readMessage role.Client input ≡ ok m
   pub not-allowed : mayCome server (log server queue calls) (scope m) ≡ false

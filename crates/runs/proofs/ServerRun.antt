@@ -23,7 +23,7 @@ far-header = 0x4A ∷ 0x6D ∷ 0x75 ∷ 0x78 ∷ 0x01 ∷ 0x00 ∷ 0x08 ∷ 0x00
 abbrev opens-5 : List ℕ
 opens-5 = 0x90 ∷ 0x05 ∷ 0x00 ∷ 0x03 ∷ 0x61 ∷ 0x62 ∷ 0x63 ∷ []
 
--- 1,022 bytes more of session 5, one more than it has left, with eof
+-- 1,022 more bytes of session 5, one more than it has left, with eof
 abbrev more-5 : List ℕ
 more-5 = 0x84 ∷ 0x05 ∷ 0x03 ∷ 0xFE ∷ zeros 1_022
 

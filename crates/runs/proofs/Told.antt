@@ -1,4 +1,4 @@
--- Runs, by computation, that fix in numbers and flags what a rule and what the log tells of it could change together.
+-- Runs, by computation, that fix in numbers and flags what could change together in a rule and in what the log tells of it.
 use mathlib.Core.Path.{_≡_, refl}
 use mathlib.Core.Bool.{true, false}
 use mathlib.Core.List.{List, [], _∷_, _++_}
@@ -11,11 +11,11 @@ use Rattle.protocol.specs.Judge.{done, served, message}
 use Rattle.history.specs.Log.{Call, open-session, put, finish, grant, abort, ping, shutdown, lost, Entry, log, run}
 use Rattle.runs.proofs.Played.{played, client, server, zeros, queue, starts, receives, turns, taken, took, refuses, breaks}
 
--- after the calls the next one adds the entry
+-- the call after these adds the entry
 abbrev Adds : Setup → List Call → Entry → Type 0
 Adds s calls e = log s queue (calls ++ (e .call ∷ [])) ≡ log s queue calls ++ (e ∷ [])
 
--- and becomes of session 5 after the calls
+-- the outcome of session 5 after the calls
 abbrev Becomes : Setup → List Call → Outcome → Type 0
 Becomes s calls o = at (run s queue calls .connection) 5 .outcome ≡ o
 
@@ -107,7 +107,7 @@ number-128 = refl
 abbrev one-left : List Call
 one-left = sent ++ (put 5 (zeros 255) ∷ turns ∷ put 5 (0x61 ∷ 0x62 ∷ []) ∷ [])
 
--- the last byte of the ration goes, and then the number is not ready
+-- the last byte of the ration is sent, and then the number is not ready
 pub last-byte-goes : Adds client one-left (taken turns (served 5) (0x80 ∷ 0x05 ∷ 0x00 ∷ 0x01 ∷ 0x61 ∷ []))
 unfolding played
 last-byte-goes = refl
@@ -116,7 +116,7 @@ pub then-none : Adds client (one-left ++ (turns ∷ [])) (refuses turns 9)
 unfolding played
 then-none = refl
 
--- 254 are spent, two are left of three that wait: both go
+-- 254 are spent, two are left of three that wait: both are sent
 pub all-that-may-go : Adds client (sent ++ (put 5 (zeros 254) ∷ turns ∷ put 5 (0x61 ∷ 0x62 ∷ 0x63 ∷ []) ∷ [])) (taken turns (served 5) (0x80 ∷ 0x05 ∷ 0x00 ∷ 0x02 ∷ 0x61 ∷ 0x62 ∷ []))
 unfolding played
 all-that-may-go = refl

@@ -1,4 +1,4 @@
--- A run in which a ready number meets calls and messages of each kind that is no lapse, and goes on waiting, by computation.
+-- A run in which a ready number meets calls and messages of each kind that is not a lapse, and goes on waiting, by computation.
 use mathlib.Core.Path.{_≡_, refl}
 use mathlib.Core.Bool.{true, false}
 use mathlib.Core.List.{List, [], _∷_, _++_, map}

@@ -1,1 +1,1 @@
-// No code: runs that the checker computes, in which what the claims over logs speak of happens.
+// No code: runs that the checker computes; what the claims over logs speak of happens in them.

@@ -30,7 +30,7 @@ use Rattle.script_words.specs.Hex.{isBytes}
 
 -- ---- the room
 
--- the room where it is left out, and the largest
+-- the room if the line names none, and the largest
 abbrev pub usualRoom : ℕ
 usualRoom = 600
 
@@ -41,11 +41,11 @@ abbrev pub roomFrom : Call → Size → Command
 roomFrom c (size.Is n) = command.Call c n
 roomFrom c size.Not = command.Wrong
 
--- the room stands behind the first word of a text
+-- the room follows the first word of a text
 unfoldable pub withRoom : Call → List ℕ → Command
 withRoom c s = pick (hasMore s) (roomFrom c (sizeFrom largestRoom (decimalOf (tailOf s)))) (command.Call c usualRoom)
 
--- nothing stands behind the first word of a text
+-- nothing follows the first word of a text
 unfoldable pub alone : Command → List ℕ → Command
 alone c s = pick (hasMore s) command.Wrong c
 
@@ -98,7 +98,7 @@ sessionCommand f s = onId (idFrom (decimalOf (headOf s))) (λ n. f n (tailOf s))
 
 -- ---- a line
 
--- a line by the name of its call, with what stands behind the name
+-- a line by the name of its call, with what follows the name
 abbrev pub commandAs : Name → List ℕ → List ℕ → Command
 commandAs name.Start s rest = withRoom call.Start s
 commandAs name.Open s rest = openCommand rest
@@ -116,11 +116,11 @@ commandAs name.State s rest = alone command.State s
 commandAs name.Queue s rest = queueCommand rest
 commandAs name.Unknown s rest = command.Wrong
 
--- what a line behind the first asks
+-- what a line after the first asks
 unfoldable pub commandOf : List ℕ → Command
 commandOf s = commandAs (nameOf (headOf s)) s (tailOf s)
 
--- the word that holds the bytes of a put or a receive: the third of the one, the second of the other
+-- the word that holds the bytes of a put or a receive: the third word of a put, the second of a receive
 unfoldable pub bytesWord : List ℕ → List ℕ
 bytesWord s = pick (same (headOf s) (codes "put")) (tailOf (tailOf s)) (headOf (tailOf s))
 

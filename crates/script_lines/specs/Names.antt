@@ -1,4 +1,4 @@
--- The first words of a script's lines behind its first one, and what each names.
+-- The first words of the lines after a script's first line, and what each names.
 use Prim.Native.Nat.{ℕ}
 use Prim.Native.String.{String}
 use mathlib.Core.List.{List, [], _∷_}
@@ -15,7 +15,7 @@ pub record NameRow : Type 0 where
 abbrev row : String → Name → NameRow
 row w n = record { word = w; name = n }
 
--- the words in the order of the script format, which the code asks in four parts
+-- the words in the order of the script format, which the code checks in four parts
 abbrev pub fromReceive : List NameRow
 fromReceive = row "receive" Receive ∷ row "state" State ∷ row "queue" Queue ∷ []
 

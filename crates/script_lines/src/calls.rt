@@ -26,7 +26,7 @@ ghost use lib.ListN.{length};
 ghost use Rattle.script_words.specs.Hex.{bytesFromHex, laid};
 ghost use Rattle.script_lines.specs.Calls.{withRoom, alone as Calls·alone, openCommand, finishCommand, queueCommand, closeCommand, putCommand, grantCommand, sessionCommand, abortCommand, pingCommand, receiveCommand, commandOf, bytesWord, withQueue, withHeader, beginningOf};
 
-// A call with the room that stands behind the first word, or 600 where that word is the last.
+// A call with the room that the word after the first names, or 600 if there is no further word.
 fn with_room(call: Call, s: &[u8]) -> Command
     ensures { λ r. ⌜ r ≡ withRoom call (now (s .entry)) ⌝ }
 {
@@ -40,7 +40,7 @@ fn with_room(call: Call, s: &[u8]) -> Command
     Command::Call(call, 600)
 }
 
-// A line whose first word is the last.
+// The command of a line that has only its first word.
 fn alone(command: Command, s: &[u8]) -> Command
     ensures { λ r. ⌜ r ≡ Calls·alone command (now (s .entry)) ⌝ }
 {
@@ -166,7 +166,7 @@ fn receive(rest: &[u8]) -> Command
     }
 }
 
-// What a line behind the first asks.
+// What a line after the first asks.
 pub fn command_of(line: &[u8]) -> Command
     ensures { λ r. ⌜ r ≡ commandOf (now (line .entry)) ⌝ }
 {
@@ -202,7 +202,7 @@ fn bytes_word(line: &[u8]) -> &[u8]
     head(rest)
 }
 
-// Puts the bytes of a put or a receive at the start of dst, as many as fit, and gives their number.
+// Puts the bytes of a put or a receive at the start of dst, as many as fit, and returns their number.
 pub fn payload(line: &[u8], dst: &mut [u8]) -> usize
     ensures { λ r. ⌜ (r ≡ min (length (bytesWord (now (line .entry))) / 2) (length (now (dst .entry)))) × (now (dst .exit) ≡ laid (now (dst .entry)) (bytesFromHex (bytesWord (now (line .entry)))) r) ⌝ }
 {

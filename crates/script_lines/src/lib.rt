@@ -7,7 +7,7 @@ pub use calls::command_of;
 pub use calls::payload;
 use wire::Role;
 
-// A call of the engine; the bytes of put and receive stand in the line.
+// A call of the engine; the bytes of put and receive are in the line.
 pub enum Call {
     Start,
     Open(u8),
@@ -23,7 +23,7 @@ pub enum Call {
     Receive,
 }
 
-// What a line asks: a call with room of a length, a print of what stands, or nothing that there is.
+// What a line asks: a call with a length of room, a print of the state or of a slot of the queue, or nothing known.
 pub enum Command {
     Call(Call, usize),
     State,
@@ -31,7 +31,7 @@ pub enum Command {
     Wrong,
 }
 
-// What the first line says: a connection's role, header number and queue length, or nothing that there is.
+// What the first line says: a connection's role, header number and queue length, or nothing known.
 pub enum Beginning {
     Made(Role, u16, usize),
     Wrong,

@@ -1,4 +1,4 @@
--- Texts: two with the same bytes are equal, and what stands behind the first space.
+-- Texts: two with the same bytes are equal, and the text behind the first space.
 use mathlib.Core.Path.{_≡_, refl, ap, sym, _∙_}
 use mathlib.Core.Bool.{Bool, true, false}
 use mathlib.Core.List.{List, [], _∷_}
@@ -45,7 +45,7 @@ whole s = take-length s
 pub found : (r : ℕ) (s : List ℕ) → r ≡ 0 + indexOf 32 (slice 0 (length s) s) → r ≡ indexOf 32 s
 found r s e = let w = ap (indexOf 32) (whole s) in omega arith
 
--- ---- what stands behind the first space
+-- ---- the text behind the first space
 
 rest-of : (k : ℕ) (s : List ℕ) → take (length s - k) (drop k s) ≡ drop k s
 rest-of k s = take-all (length s - k) (drop k s) (omega (arith, length-drop k s))
@@ -59,6 +59,6 @@ unfolding tailOf
 tail-none r s e h =
     rest-of r s ∙ drop-of-length-le s {i = r} h ∙ sym (drop-of-length-le s {i = r + 1} (omega arith)) ∙ ap (λ (k : ℕ). drop (k + 1) s) e
 
--- what a call answers of a text that equals another
+-- what a call answers about a text that equals another
 pub told : {A : Type 0} {h s : List ℕ} (f : List ℕ → A) {r x : A} → h ≡ s → r ≡ f h → r ≡ x → f s ≡ x
 told f p q e = ap f (sym p) ∙ sym q ∙ e

@@ -68,7 +68,7 @@ tens-most i h = leb→le (tens i) 100000000 (below (λ k. leb (tens k) 100000000
 pub has-room : (v i : ℕ) → i < 9 → v < tens i → v < 100000000
 has-room v i h p = let m : tens i ≤ 100000000 = tens-most i h in omega arith
 
--- with a digit more it stays below the next power of ten
+-- with one more digit it stays below the next power of ten
 pub grows : (v b i : ℕ) → i < 9 → v < tens i → isDigit b ≡ true → v * 10 + (b - 48) < tens (i + 1)
 grows v b i h p e =
     let low : 48 ≤ b = at-least b e in

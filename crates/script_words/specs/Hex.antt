@@ -8,7 +8,7 @@ use Rattle.laws.specs.Pick.{pick}
 use Rattle.laws.specs.Codes.{codes}
 use Rattle.script_words.specs.Words.{same}
 
--- the value of a digit: 48 to 57 are 0 to 9, 97 to 102 are 10 to 15, and 16 says that it is none
+-- the value of a digit: 48 to 57 are 0 to 9, 97 to 102 are 10 to 15, and 16 is for a byte that is not a digit
 unfoldable pub digitOf : ℕ → ℕ
 digitOf b = pick (ltb b 48) 16 (pick (leb b 57) (b - 48) (pick (ltb b 97) 16 (pick (leb b 102) (b - 87) 16)))
 
@@ -26,7 +26,7 @@ bytesFromHex [] = []
 bytesFromHex (a ∷ []) = []
 bytesFromHex (a ∷ b ∷ s) = byteOf a b ∷ bytesFromHex s
 
--- a word that stands for bytes: `-`, or an even number of digits for at most so many bytes, and for one at least
+-- a word that represents bytes: `-`, or an even number of digits, for at least one byte and at most the given number
 unfoldable pub isBytes : ℕ → List ℕ → Bool
 isBytes most s =
     pick (same s (codes "-")) true
@@ -41,6 +41,6 @@ unfoldable pub textOf : List ℕ → List ℕ
 textOf [] = []
 textOf (b ∷ s) = glyphOf (b / 16) ∷ glyphOf (b % 16) ∷ textOf s
 
--- what the first n of some bytes make of a place that they are put at the start of
+-- a place after the first n of some bytes are put at its start
 abbrev pub laid : List ℕ → List ℕ → ℕ → List ℕ
 laid place bytes n = take n bytes ++ drop n place

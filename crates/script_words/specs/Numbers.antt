@@ -22,16 +22,16 @@ unfoldable pub allDecimal : List ℕ → Bool
 allDecimal [] = true
 allDecimal (b ∷ s) = isDigit b && allDecimal s
 
--- the value of a text of digits behind a value: each further digit makes it ten times as large
+-- the value of digits that follow a value: it is multiplied by ten before each further digit is added
 unfoldable pub valueFrom : ℕ → List ℕ → ℕ
 valueFrom v [] = v
 valueFrom v (b ∷ s) = valueFrom (v * 10 + (b - 48)) s
 
--- a 0 in front of other bytes
+-- a digit 0 in front of other bytes
 abbrev pub leadsWithZero : List ℕ → Bool
 leadsWithZero s = ltb 1 (length s) && eqb (getD s 0 0) 48
 
--- a text of digits alone is its value
+-- a text that is all digits is its value
 unfoldable pub digitsOf : List ℕ → Number
 digitsOf s = pick (allDecimal s) (number.Is (valueFrom 0 s)) number.Not
 

@@ -5,7 +5,7 @@ ghost use Prim.Native.Nat.{_*_, _/_, _≤_, _<_, min};
 ghost use lib.ListN.{length};
 ghost use Rattle.script_words.specs.Hex.{digitOf, allHex, byteOf, bytesFromHex, isBytes, glyphOf, textOf, laid};
 
-// The value of a digit, or 16 where it is none.
+// The value of a digit, or 16 for a byte that is not a digit.
 fn digit(b: u8) -> u8
     ensures { λ r. ⌜ r ≡ digitOf b ⌝ }
 {
@@ -50,7 +50,7 @@ fn all_hex(s: &[u8]) -> bool
     true
 }
 
-// Whether a word stands for bytes, at most so many: `-`, or an even number of digits.
+// Whether a word represents bytes, at most `most`: `-`, or an even number of digits.
 pub fn is_bytes(s: &[u8], most: usize) -> bool
     ensures { λ r. ⌜ r ≡ isBytes most (now (s .entry)) ⌝ }
 {
@@ -76,7 +76,7 @@ fn least(a: usize, b: usize) -> usize
     if a < b { a } else { b }
 }
 
-// Puts the bytes of a text at the start of dst, as many as fit, and gives their number.
+// Puts the bytes of a text at the start of dst, as many as fit, and returns their number.
 pub fn from_hex(s: &[u8], dst: &mut [u8]) -> usize
     ensures { λ r. ⌜ (r ≡ min (length (now (s .entry)) / 2) (length (now (dst .entry)))) × (now (dst .exit) ≡ laid (now (dst .entry)) (bytesFromHex (now (s .entry))) r) ⌝ }
 {
@@ -96,7 +96,7 @@ fn glyph(d: u8) -> u8
     if d < 10 { 48 + d } else { 87 + d }
 }
 
-// Puts the digits of bytes at the start of dst, for as many bytes as fit, and gives the number of bytes.
+// Puts the digits of bytes at the start of dst, for as many bytes as fit, and returns the number of bytes.
 pub fn to_hex(src: &[u8], dst: &mut [u8]) -> usize
     ensures { λ r. ⌜ (r ≡ min (length (now (src .entry))) (length (now (dst .entry)) / 2)) × (now (dst .exit) ≡ laid (now (dst .entry)) (textOf (now (src .entry))) (2 * r)) ⌝ }
 {

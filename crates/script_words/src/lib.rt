@@ -22,7 +22,7 @@ pub enum Number {
     Not,
 }
 
-// A number of a session, or none.
+// A session number, or none.
 pub enum Id {
     Is(u8),
     Not,

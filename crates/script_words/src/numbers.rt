@@ -34,7 +34,7 @@ fn digits(s: &[u8]) -> Number
     Number::Is(value)
 }
 
-// A text of several bytes whose first is 0.
+// Whether a text has several bytes and the first is the digit 0.
 fn leads_with_zero(s: &[u8]) -> bool
     ensures { λ r. ⌜ r ≡ leadsWithZero (now (s .entry)) ⌝ }
 {
@@ -57,7 +57,7 @@ pub fn decimal_of(s: &[u8]) -> Number
     digits(s)
 }
 
-// The number of a session, as far as a byte holds it.
+// A session number, if it fits a byte.
 pub fn id_of(s: &[u8]) -> Id
     ensures { λ r. ⌜ r ≡ idFrom (decimalOf (now (s .entry))) ⌝ }
 {
@@ -85,7 +85,7 @@ pub fn short_of(s: &[u8]) -> Short
     }
 }
 
-// A length of at most a limit.
+// A length of at most `most`.
 pub fn size_of(s: &[u8], most: u32) -> Size
     ensures { λ r. ⌜ r ≡ sizeFrom most (decimalOf (now (s .entry))) ⌝ }
 {

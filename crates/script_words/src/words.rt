@@ -1,4 +1,4 @@
-// The words of a line, which one space separates.
+// The words of a line, which are separated by one space.
 use bytes::scan::find;
 ghost use mathlib.Core.Path.{_≡_};
 ghost use Prim.Native.Nat.{_≤_};
@@ -6,7 +6,7 @@ ghost use lib.ListN.{length};
 ghost use Rattle.bytes.specs.Bytes.{indexOf};
 ghost use Rattle.script_words.specs.Words.{headOf, tailOf, hasMore, isSkipped, same};
 
-// Where the first space stands, or the length.
+// The place of the first space, or the length.
 fn space(s: &[u8]) -> usize
     ensures { λ r. ⌜ (r ≡ indexOf 32 (now (s .entry))) × (r ≤ length (now (s .entry))) ⌝ }
 {
@@ -21,7 +21,7 @@ pub fn head(s: &[u8]) -> &[u8]
     &s[..k]
 }
 
-// The text behind the first space; none where there is no space.
+// The text behind the first space, or no text if there is no space.
 pub fn tail(s: &[u8]) -> &[u8]
     ensures { λ r. ⌜ now r ≡ tailOf (now (s .entry)) ⌝ }
 {
@@ -36,7 +36,7 @@ pub fn has_more(s: &[u8]) -> bool
     space(s) < s.len()
 }
 
-// Whether the line asks nothing: it is empty or a comment.
+// Whether the line asks for nothing: it is empty or a comment.
 pub fn is_skipped(line: &[u8]) -> bool
     ensures { λ r. ⌜ r ≡ isSkipped (now (line .entry)) ⌝ }
 {

@@ -1,4 +1,4 @@
--- What each answer of a session's steps means, and what a rule about one session comes to.
+-- What each answer of a session's steps means, and the result of a rule about one session.
 use mathlib.Core.Bool.{false}
 use mathlib.Core.List.{List, [], _∷_}
 use Rattle.laws.specs.Result.{Result, ok, refused}
@@ -26,6 +26,6 @@ abbrev pub steppedAs : Stepped → Result rule.Taken
 steppedAs (stepped.Taken t) = ok (takenAs t)
 steppedAs (stepped.Refused r) = refused (refusalNumber r)
 
--- what a rule of a local call comes to: it takes, or refuses
+-- the result of the rule of a local call: it takes, or refuses
 abbrev pub toStepped : Plan rule.Taken → Result rule.Taken
 toStepped p = settle refused ok p

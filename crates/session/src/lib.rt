@@ -1,4 +1,4 @@
-// One session: what a step of it answers, and the parts that the steps share. No table of sessions is here.
+// One session: what a step of it answers, and the parts that the steps share. The table of sessions is not here.
 pub mod parts;
 
 use refusal::Refusal;
@@ -23,7 +23,7 @@ pub struct Taken {
     pub late: bool,
 }
 
-// What a local call comes to for its session.
+// The result of a local call for its session.
 pub enum Stepped {
     Taken(Taken),
     Refused(Refusal),

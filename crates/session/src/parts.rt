@@ -1,4 +1,4 @@
-// The ways in which a session changes that several steps share, and the answer of a step that is taken.
+// The changes of a session that several steps share, and the answer of a step that is taken.
 use crate::SLOT_SIZE;
 use crate::Sent;
 use crate::Stepped;
@@ -17,7 +17,7 @@ ghost use Rattle.session.specs.Step.{sentAs, steppedAs};
 ghost use Rattle.protocol.specs.Session.{becomes as Session·becomes, dropped as Session·dropped, settled as Session·settled, afterData};
 ghost use Rattle.protocol.specs.Ask.{sends as Ask·sends};
 
-// Where Data leaves the side that sends it.
+// The state of the side that sends Data, after it.
 pub fn after_data(close: bool, eof: bool) -> Side
     ensures { λ r. ⌜ r ≡ afterData close eof ⌝ }
 {
@@ -58,14 +58,14 @@ fn becomes(was: Outcome, new: Outcome) -> Outcome
     }
 }
 
-// The session with nothing waiting and no finish asked.
+// The session with nothing waiting and no finish asked for.
 pub fn dropped(x: Session) -> Session
     ensures { λ r. ⌜ r ≡ Session·dropped x ⌝ }
 {
     x.with_waiting(0, false)
 }
 
-// The session with a new outcome, where its outcome runs.
+// The session with a new outcome, if its outcome is running.
 pub fn settled(x: Session, new: Outcome) -> Session
     ensures { λ r. ⌜ r ≡ Session·settled new x ⌝ }
 {
@@ -84,7 +84,7 @@ pub fn taken(x: Session, sent: Sent) -> Stepped
     })
 }
 
-// Whether n bytes more fit the slot of a session, beside those that wait; the constant is the size that the rules use.
+// Whether n more bytes fit the slot of a session, beside those that wait; the constant is the size that the rules use.
 pub fn fits_slot(waiting: u16, n: usize) -> bool
     ensures { λ r. ⌜ r ≡ leb n (slotSize - waiting) ⌝ }
     ensures { λ _. do ⌜ (← ⟦SLOT_SIZE⟧ .entry) ≡ slotSize ⌝ }

@@ -22,7 +22,7 @@ ghost use Rattle.state.specs.declared.Side.the-variants.{Finished};
 ghost use Rattle.state.specs.declared.Sides.the-variants.{Live};
 ghost use Rattle.state.specs.declared.Outcome.the-variants.{MayRetry};
 
-// Closes a session whose own side is finished.
+// Closes a session if its own side is finished.
 fn close_of(x: Session, sides: Sides) -> Stepped
     ensures { λ r. ⌜ steppedAs r ≡ toStepped (closeOf x sides) ⌝ }
 {
@@ -40,7 +40,7 @@ fn close_of(x: Session, sides: Sides) -> Stepped
     }
 }
 
-// Closes a session of a server's.
+// Closes a session; only a server may.
 pub fn step_close(role: Role, x: Session) -> Stepped
     ensures { λ r. ⌜ steppedAs r ≡ toStepped (closeAsk role x) ⌝ }
 {
@@ -51,7 +51,7 @@ pub fn step_close(role: Role, x: Session) -> Stepped
     close_of(x, sides)
 }
 
-// The sides that stood before an open.
+// The sides before an open.
 fn restored(before: Before) -> Sides
     ensures { λ r. ⌜ r ≡ Ask·restored before ⌝ }
 {

@@ -45,7 +45,7 @@ fn may_grant(sides: Sides) -> bool
     }
 }
 
-// Whether an amount is no 16-bit number above 0.
+// Whether an amount is 0 or does not fit 16 bits.
 fn is_bad_amount(amount: u32) -> bool
     ensures { λ r. ⌜ r ≡ (eqb amount 0 || ltb 65_535 amount) ⌝ }
 {
@@ -54,7 +54,7 @@ fn is_bad_amount(amount: u32) -> bool
     none | large
 }
 
-// The inbound ration has grown, and an IncrementRation goes out.
+// The step after the inbound ration has grown: an IncrementRation goes out.
 fn granted(x: Session, more: Ration, amount: u16) -> Stepped
     ensures { λ r. ⌜ steppedAs r ≡ ok (record { session = withRations (x .outbound) more x; sent = increment-of amount ∷ []; late = false }) ⌝ }
 {
@@ -62,7 +62,7 @@ fn granted(x: Session, more: Ration, amount: u16) -> Stepped
     taken(x.with_rations(outbound, more), Sent::Increment(amount))
 }
 
-// Grants an amount, where the inbound ration takes it.
+// Grants an amount, if the inbound ration is finite and can grow by it.
 fn extend(x: Session, amount: u16) -> Stepped
     ensures { λ r. ⌜ steppedAs r ≡ toStepped (check (not (grantable (x .inbound) amount)) 7 (writing (increment-of amount) (extended amount x))) ⌝ }
 {

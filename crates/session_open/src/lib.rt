@@ -16,7 +16,7 @@ ghost use Rattle.state.specs.declared.Sides.the-variants.{Live};
 ghost use Rattle.protocol.specs.Ask.{opened as Ask·opened, openOf, openAsk};
 ghost use Rattle.session.specs.Step.{steppedAs, toStepped};
 
-// The session opening, over what stood before.
+// The session as opening, which remembers its sides before the open.
 fn opened(x: Session, before: Before) -> Session
     ensures { λ r. ⌜ r ≡ Ask·opened before x ⌝ }
 {
@@ -24,7 +24,7 @@ fn opened(x: Session, before: Before) -> Session
     opening.with_outcome(Outcome::Running)
 }
 
-// Opens a number that was used before: its far side is ended and its own side is finished or ended.
+// Opens a number that was used before, if its far side is ended and its own side is finished or ended.
 fn open_again(x: Session, ours: Side, theirs: Side) -> Stepped
     ensures { λ r. ⌜ steppedAs r ≡ toStepped (openOf x (Live ours theirs)) ⌝ }
 {
@@ -53,7 +53,7 @@ fn open_of(x: Session, sides: Sides) -> Stepped
     }
 }
 
-// Opens a session of a client's.
+// Opens a session; only a client may.
 pub fn step_open(role: Role, x: Session) -> Stepped
     ensures { λ r. ⌜ steppedAs r ≡ toStepped (openAsk role x) ⌝ }
 {

@@ -1,2 +1,2 @@
--- The definitions of what a message received comes to.
+-- The definitions of the result of a received message.
 pub mod Receipt

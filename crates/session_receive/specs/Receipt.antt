@@ -1,4 +1,4 @@
--- What each answer to a message received means, and what a rule of a receipt comes to.
+-- What each answer to a received message means, and the result of a receipt's rule.
 use Rattle.laws.specs.Result.{Result, ok, violation}
 use Rattle.refusal.specs.Number.{violationNumber}
 use Rattle.protocol.specs.Plan.{Plan, settle}
@@ -11,6 +11,6 @@ abbrev pub receiptAs : Receipt → Result rule.Taken
 receiptAs (receipt.Taken t) = ok (takenAs t)
 receiptAs (receipt.Violated v) = violation (violationNumber v)
 
--- what a rule of a receipt comes to: it takes, or finds a violation
+-- the result of a receipt's rule: it takes, or finds a violation
 abbrev pub toReceipt : Plan rule.Taken → Result rule.Taken
 toReceipt p = settle violation ok p

@@ -81,7 +81,7 @@ fn data_to(role: Role, x: Session, n: u16, close: bool, ours: Side, theirs: Side
     }
 }
 
-// Data other than an open: an idle or opening number does not take it, nor does one whose far side is finished or ended.
+// Data other than an open: a number that is idle or opening does not take it, nor does one whose far side is finished or ended.
 fn other_data(role: Role, x: Session, n: u16, close: bool, eof: bool, sides: Sides) -> Receipt
     ensures { λ r. ⌜ ((ack : Bool) → receiptAs r ≡ toReceipt (other role x (data-of n false close eof ack) sides)) ⌝ }
 {
@@ -134,7 +134,7 @@ fn accept(own: Ration, far: Ration, x: Session, n: u16, close: bool, eof: bool) 
     Receipt::Violated(Violation::WrongState)
 }
 
-// Data; `own` and `far` are the starting rations that our header and theirs grant. An asked acknowledgment changes nothing.
+// Data; `own` and `far` are the starting rations that our header and theirs grant. A request for an acknowledgment changes nothing.
 pub fn receive_data(
     role: Role,
     own: Ration,

@@ -1,4 +1,4 @@
-// One session's step at each message received. No table of sessions is here.
+// One session's step at each received message. The table of sessions is not here.
 mod data_messages;
 mod end_messages;
 mod increments;
@@ -12,7 +12,7 @@ pub use increments::receive_increment;
 use refusal::Violation;
 use session::Taken;
 
-// What a message received comes to for its session.
+// The result of a received message for its session.
 pub enum Receipt {
     Taken(Taken),
     Violated(Violation),

@@ -1,4 +1,4 @@
-// What a message received comes to for its session: it is taken, with a reply or without, or is a violation.
+// The result of a received message for its session: it is taken, with or without a reply, or is a violation.
 
 use crate::Receipt;
 use session::Sent;

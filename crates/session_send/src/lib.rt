@@ -1,4 +1,4 @@
-// One session's steps at what it sends: bytes put, the end asked for, and the turn that sends them.
+// One session's steps for sending: put bytes, ask for the end, and the turn that sends them.
 mod putting;
 mod turns;
 

@@ -1,4 +1,4 @@
-// Put and finish: bytes wait behind those that wait, and the end of our side is asked for.
+// Put and finish: bytes wait behind those that already wait, and the end of our side is asked for.
 use refusal::Refusal;
 use session::Sent;
 use session::Stepped;

@@ -1,4 +1,4 @@
--- A session and a connection with some of their parts set. A blank session and a fresh connection are in `New`; no other definition names every part.
+-- A session and a connection with some parts set. No definition names every part but the blank session and the fresh connection in `New`.
 use Prim.Native.Nat.{ℕ}
 use mathlib.Core.Bool.{Bool}
 use mathlib.Core.List.{List}
@@ -22,7 +22,7 @@ abbrev pub withRations : Ration → Ration → Session → Session
 withRations out in′ x =
     record { sides = x .sides; outbound = out; inbound = in′; waiting = x .waiting; finish = x .finish; outcome = x .outcome }
 
--- how many bytes wait, and whether a finish is asked
+-- how many bytes wait, and whether a finish is asked for
 abbrev pub withWaiting : ℕ → Bool → Session → Session
 withWaiting n finish x =
     record { sides = x .sides; outbound = x .outbound; inbound = x .inbound; waiting = n; finish = finish; outcome = x .outcome }

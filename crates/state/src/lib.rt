@@ -8,14 +8,14 @@ use refusal::Violation;
 use wire::Message;
 use wire::Role;
 
-// Where one end of a session stands with what it sends.
+// How far one end of a session is with its sending.
 pub enum Side {
     Open,
     Finished,
     Ended,
 }
 
-// What stood before a client's open; the far side was ended in the last two.
+// The sides before a client's open; the far side was ended in the last two.
 pub enum Before {
     Idle,
     Finished,
@@ -48,7 +48,7 @@ pub struct Session {
     pub outcome: Outcome,
 }
 
-// How far the connection headers are exchanged: not at all, a client's is sent, or both, with the far number.
+// How far the connection headers are exchanged: not at all, a client's is sent, or both, with the far end's number.
 pub enum Stage {
     Fresh(Role),
     Started,
@@ -88,7 +88,7 @@ pub enum Answer {
 }
 
 // What a call gives: the connection after it, the answer, the numbers of bytes used and written, and where in the input
-// the payload of a message stands.
+// the payload of a message is.
 pub struct Called {
     pub connection: Connection,
     pub answer: Answer,
@@ -142,7 +142,7 @@ impl Session {
         }
     }
 
-    // The session with so many bytes waiting, and a finish asked or not.
+    // The session with this many bytes waiting, and a finish asked for or not.
     pub fn with_waiting(mut self, waiting: u16, finish: bool) -> Session
         ensures { λ r. ⌜ r ≡ withWaiting waiting finish self ⌝ }
     {

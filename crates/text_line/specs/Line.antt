@@ -24,11 +24,11 @@ decimal n = digits 10 (places 19 n) n
 abbrev pub itemText : String → ℕ → List ℕ
 itemText name value = codes name ++ decimal value
 
--- a flag's name, where it is set
+-- a flag's name, if it is set
 abbrev pub flagText : String → Bool → List ℕ
 flagText name set = pick set (codes name) []
 
--- what stands behind a line's end is no text and the program's choice; a length above 128 is a full line's
+-- the bytes behind a line's end are not text, and the program may choose them; a length above 128 means a full line
 abbrev pub lineText : Line → List ℕ
 lineText l = take (l .length) (l .bytes)
 

@@ -10,7 +10,7 @@ use Rattle.laws.specs.Codes.{codes}
 use Rattle.text_line.specs.Line.{itemText, flagText}
 use Rattle.text_message.specs.Message.{messageText}
 
--- a message that was taken, and how many bytes of the input
+-- a message that was taken, and how many bytes of the input it used
 abbrev pub takenText : Message → Bool → ℕ → List ℕ
 takenText m late used = codes " ok " ++ messageText m ++ flagText " late" late ++ itemText " used " used
 

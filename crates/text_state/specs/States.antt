@@ -1,4 +1,4 @@
--- The words of what stands.
+-- The words of the current state.
 use Prim.Native.Nat.{ℕ}
 use mathlib.Core.Bool.{Bool, true, false}
 use mathlib.Core.List.{List, [], _++_}
@@ -38,7 +38,7 @@ connectionText c = codes "connection" ++ stageText (c .stage) ++ flagText " over
 abbrev pub waitingText : ℕ → Bool → List ℕ
 waitingText n finish = itemText " waiting " n ++ flagText " finish" finish
 
--- the inbound ration counts where their side is open
+-- the inbound ration counts if their side is open
 abbrev pub inText : Side → Ration → List ℕ
 inText side.Open r = codes " in " ++ rationText r
 inText side.Finished r = []
@@ -47,7 +47,7 @@ inText side.Ended r = []
 abbrev pub outText : Ration → List ℕ
 outText r = codes " out " ++ rationText r
 
--- what counts of a session with two sides: both rations and what waits where ours is open, the inbound one where it is finished
+-- what counts of a session with two sides: both rations and what waits if ours is open, the inbound one if it is finished
 abbrev pub liveText : Side → Side → Session → List ℕ
 liveText side.Open theirs x = outText (x .outbound) ++ inText theirs (x .inbound) ++ waitingText (x .waiting) (x .finish)
 liveText side.Finished theirs x = inText theirs (x .inbound)
@@ -61,7 +61,7 @@ countsText (sides.Live ours theirs) x = liveText ours theirs x
 abbrev pub sessionText : ℕ → Session → List ℕ
 sessionText n x = itemText "session " n ++ sidesText (x .sides) ++ outcomeText (x .outcome) ++ countsText (x .sides) x
 
--- ---- which sessions are told of
+-- ---- which sessions are shown
 
 abbrev pub hasOutcome : Outcome → Bool
 hasOutcome outcome.None = false

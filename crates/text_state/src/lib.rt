@@ -1,4 +1,4 @@
-// The words of what a call answers, and of what stands in a connection and in each session.
+// The words of a call's answer, and of the state of a connection and each session.
 mod answers;
 mod parts;
 mod states;

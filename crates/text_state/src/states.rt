@@ -1,4 +1,4 @@
-// The words of what stands.
+// The words of the current state.
 use crate::parts::with_outcome;
 use crate::parts::with_ration;
 use crate::parts::with_role;
@@ -71,7 +71,7 @@ fn with_waiting(line: Line, waiting: u16, finish: bool) -> Line
         .flag(b" finish", finish)
 }
 
-// The line with what counts of a session with two sides behind its end.
+// The line with, behind its end, what counts of a session with two sides.
 fn with_live(line: Line, ours: Side, theirs: Side, x: Session) -> Line
     ensures { λ r. ⌜ LineIs r (added (lineText line) (liveText ours theirs x)) ⌝ }
 {
@@ -114,7 +114,7 @@ fn has_outcome(outcome: Outcome) -> bool
     }
 }
 
-// Whether a session is told of: it is not idle, or has an outcome.
+// Whether a session is shown: it is not idle, or has an outcome.
 pub fn is_shown(x: Session) -> bool
     ensures { λ r. ⌜ r ≡ shownBy (x .sides) (x .outcome) ⌝ }
 {

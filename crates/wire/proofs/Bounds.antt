@@ -1,4 +1,4 @@
--- What holds of every message that the reader gives, whatever stands in its input: its fields fit, and its sender may send it.
+-- What holds of every message that the reader gives, whatever its input is: its fields fit, and its sender may send it.
 use mathlib.Core.Path.{_≡_, refl, sym, ap, _∙_, subst}
 use mathlib.Core.Bool.{Bool, true, false, _||_}
 use mathlib.Core.List.{List}
@@ -151,7 +151,7 @@ header-number s n q = go (ltb (length s) 8) q
     go true p = absurd (refused-not-ok p)
     go false p = parsed-number (take 8 s) n p
 
--- ---- what stands too short is refused with 10, and nothing else is refused; of the violations only those that pass a test
+-- ---- an input that is too short is refused with 10, and no other is refused; each violation passes a test
 
 abbrev pub Only : {A : Type 0} → (ℕ → Bool) → Result A → Type 0
 Only v (ok a) = Unit {0}
@@ -195,7 +195,7 @@ isReaders n = eqb n 20 || eqb n 21 || eqb n 23 || eqb n 24
 pub message-numbers : (from : Role) (s : List ℕ) → Only isReaders (readMessage from s)
 message-numbers from s = message-only isReaders refl refl refl refl from s
 
--- a violation is a number from 20 up
+-- refused only with 10, and a violation is a number from 20 up
 abbrev pub ShortOnly : {A : Type 0} → Result A → Type 0
 ShortOnly r = Only (leb 20) r
 

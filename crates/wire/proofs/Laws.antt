@@ -1,5 +1,5 @@
--- The laws of the wire format, once for both roles: reading and writing are inverse, the writer refuses exactly a message
--- that is read from no bytes at all, and a message cut short is incomplete. From the inverse of header and message.
+-- The laws of the wire format, once for both roles: reading and writing are inverse, the writer refuses exactly the messages
+-- that are read from no bytes at all, and a message cut short is incomplete. From the inverse of header and message.
 use mathlib.Core.Path.{_≡_, refl, sym, ap, _∙_}
 use mathlib.Core.Logic.{_↔_}
 use mathlib.Core.Bool.{Bool, true, false}
@@ -151,6 +151,6 @@ module _ (from : Role) (m : Message) (body : List ℕ) where
       let l : bodyLength m ≡ length body = omega (arith, ap length (g .follows), length-drop 4 (g .bytes), g .whole) in
       ap (writable from m) (sym l) ∙ read-writable from (g .bytes) m (g .each) (g .reads)
 
-  -- a message and a body may be written exactly where some bytes are read as them
+  -- a message and a body may be written exactly if some bytes are read as them
   pub writer-exact : Bytes body → numberOf m < 65_536 → (writable from m (length body) ≡ true) ↔ GivenBack from m body
   writer-exact bs n = (written-back bs n, back-writable)

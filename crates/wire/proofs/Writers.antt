@@ -72,7 +72,7 @@ module _ (from : Role) (m : Message) (body room : List ℕ) where
       go (no-room w f p) = ap after p
       go (not-given w p) = ap after p
 
-  -- 14 exactly where no bytes at all are read as the message with that body
+  -- 14 exactly if no bytes at all are read as the message with that body
   pub refused-14 : Bytes body → numberOf m < 65_536 → (writeMessage from m body room .0 ≡ refused 14) ↔ (GivenBack from m body → ⊥)
   refused-14 bs n = (to way, back way)
     where
@@ -86,7 +86,7 @@ module _ (from : Role) (m : Message) (body room : List ℕ) where
       back (no-room w f p) none = absurd (none (writer-exact from m body bs n .0 w))
       back (not-given w p) none = ap answer p
 
-  -- 8 exactly where it is not 14 and the room is too small
+  -- 8 exactly if it is not 14 and the room is too small
   pub refused-8 : Bytes body → numberOf m < 65_536 → (writeMessage from m body room .0 ≡ refused 8) ↔ (GivenBack from m body × (length room < 4 + length body))
   refused-8 bs n = (to way, back way)
     where
@@ -103,13 +103,13 @@ module _ (from : Role) (m : Message) (body room : List ℕ) where
 -- ---- the connection header
 
 module _ (n : ℕ) (room : List ℕ) where
-  -- what is written is read back as the same number, and a room of 8 bytes is all that is asked
+  -- what is written is read back as the same number, and a room of 8 bytes is all that is needed
   pub header-written-read : n < 65_536 → 8 ≤ length room → (writeConnectionHeader n room .0 ≡ ok 8) × (readConnectionHeader (writeConnectionHeader n room .1) ≡ ok n)
   header-written-read h f =
       let e = sym (header-ok n room f refl) in
       (ap answer e, ap (λ (r : Result ℕ × List ℕ). readConnectionHeader (r .1)) e ∙ header-read-written n (drop 8 room) h)
 
-  -- 8 exactly where the room is too small, whatever the number, and then the room is as lent
+  -- 8 exactly if the room is too small, whatever the number, and then the room is as lent
   pub header-refused-8 : (writeConnectionHeader n room .0 ≡ refused 8) ↔ (length room < 8)
   header-refused-8 = (to (leb 8 (length room)) refl, λ l. ap answer (sym (header-no-room n room l)))
     where

@@ -70,7 +70,7 @@ module _ (from : Role) (m : Message) (body room : List ℕ) where
   unfolding atFront
   at-front = let p : length (header m ++ body) ≡ 4 + length body = length-append (header m) body in cc
 
-  -- the header and the body at the front of a room, as many bytes as were put there; none were where the room is too small
+  -- the header and the body at the front of a room, as many bytes as were put there; none if the room is too small
   pub put-wrote : {n : ℕ} {last : List ℕ} → writable from m (length body) ≡ true → (n, last) ≡ atFront (header m ++ body) room → 0 < n
       → (ok n, last) ≡ writeMessage from m body room
   unfolding writeMessage

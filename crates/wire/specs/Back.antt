@@ -24,7 +24,7 @@ pub record NumberBack (n : ℕ) : Type 0 where
   pub each : Bytes bytes
   pub reads : readConnectionHeader bytes ≡ ok n
 
--- what a writer that wrote k bytes has done to its room: the message stands first, is read as itself, and the rest is as lent
+-- the room after a writer wrote k bytes: the message is at the front, is read as itself, and the rest is as lent
 pub record WroteMessage (from : Role) (m : Message) (body room : List ℕ) (k : ℕ) (out : List ℕ) : Type 0 where
   pub count : k ≡ 4 + length body
   pub fits : k ≤ length room

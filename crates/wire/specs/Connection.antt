@@ -25,7 +25,7 @@ unfoldable pub parseConnectionHeader : List ℕ → Result ℕ
 parseConnectionHeader header =
     pick (fixed connectionLayout header) (ok (digits initialRation connectionLayout header 0)) (violation 22)
 
--- what stands first in the input: 10 for fewer than 8 bytes
+-- what is at the front of the input: 10 for fewer than 8 bytes
 unfoldable pub readConnectionHeader : List ℕ → Result ℕ
 readConnectionHeader s = pick (ltb (length s) 8) (refused 10) (parseConnectionHeader (take 8 s))
 

@@ -52,7 +52,7 @@ wide p i rows = row 2 p i ∷ row 3 p i ∷ rows
 abbrev lengthAndBody : List LayoutRow
 lengthAndBody = wide (bits x x x x x x x x) length (row 4 [] body ∷ [])
 
--- a session identifier stands in a byte with its top bit reserved
+-- a session identifier is in a byte with its top bit reserved
 abbrev session : List LayoutRow → List LayoutRow
 session rows = row 1 (bits O - - - - - - -) reserved ∷ row 1 (bits - x x x x x x x) sessionID ∷ rows
 
@@ -107,7 +107,7 @@ hasItem i (r ∷ rs) = eqb (number i) (number (r .item)) || hasItem i rs
 abbrev pub item : Kind → Item → List ℕ → ℕ
 item k i header = digits i (layout k) header 0
 
--- a flag is set where its bit is 1
+-- a flag is set if its bit is 1
 abbrev pub flag : Kind → Item → List ℕ → Bool
 flag k i header = eqb (item k i header) 1
 

@@ -1,4 +1,4 @@
--- Which messages a sender may send, which message stands in bytes, and which bytes a message has.
+-- Which messages a sender may send, which message is in some bytes, and which bytes a message has.
 use Prim.Native.Nat.{ℕ, _+_, _*_, _/_, _%_, _^_}
 use mathlib.Core.List.{List, [], _∷_, _++_}
 use mathlib.Core.Bool.{Bool, true, false, not, _&&_, _||_}
@@ -86,17 +86,17 @@ bodyLength (Close i) = 0
 bodyLength (Acknowledgment i) = 0
 bodyLength (Data o c e a i n) = n
 
--- 10 for a message that is not all there
+-- 10 for a message that is not complete
 abbrev pub withBody : ℕ → Result Message → Result Message
 withBody have (ok m) = pick (leb (4 + bodyLength m) have) (ok m) (refused 10)
 withBody have (refused n) = refused n
 withBody have (violation n) = violation n
 
--- what stands first in the input: 10 for fewer than 4 bytes, then what the header says, then 10 again
+-- what is at the front of the input: 10 for fewer than 4 bytes, then what the header says, then 10 again
 unfoldable pub readMessage : Role → List ℕ → Result Message
 readMessage from s = pick (ltb (length s) 4) (refused 10) (withBody (length s) (parseHeader from (take 4 s)))
 
--- the increment shifted left by twice the shift, which is a 3-bit integer; of a larger one, which no reader gives, the low
+-- the increment shifted left by twice the shift, which is a 3-bit integer; of a larger shift, which no reader gives, only the low
 -- three bits count, and that is the program's choice
 unfoldable pub effectiveIncrement : ℕ → ℕ → ℕ
 effectiveIncrement shift increment = increment * 2 ^ (2 * (shift % 8))
@@ -108,7 +108,7 @@ abbrev pub weight : ℕ → Bool → ℕ
 weight w true = w
 weight w false = 0
 
--- the row of the type with its items; a shift counts by its low three bits, as in the effective increment
+-- the row of the type with its items; only the low three bits of a shift count, as in the effective increment
 abbrev pub firstByte : Message → ℕ
 firstByte (NoOperation n) = 0x00
 firstByte (Shutdown n) = 0x02

@@ -20,13 +20,13 @@ pub enum Kind {
     Data,
 }
 
-// What a first byte says of the type.
+// What a first byte says about the type.
 pub enum Named {
     Known(Kind),
     Unknown,
 }
 
-// A message with every item but its data or detail, which are bytes of the caller's.
+// A message with every item except its data or detail, which are the caller's bytes.
 pub enum Message {
     NoOperation {
         length: u16,

@@ -21,7 +21,7 @@ fn start(number: u16) {
     show::end();
 }
 
-// A ration, and a number that is put to it.
+// Prints a ration, and a number that is applied to it.
 fn asked(r: Ration, name: &[u8], n: u32) {
     amount(b"ration ", r);
     show::item(name, n as u64);
@@ -43,7 +43,7 @@ fn grown(answer: Grown) {
     }
 }
 
-// A ration grown by an increment that is shifted.
+// Grows a ration by a shifted increment.
 fn grow(r: Ration, shift: u8, increment: u16) {
     let n = wire_fields::effective_increment(shift, increment);
     asked(r, b" grow ", n);
@@ -60,7 +60,7 @@ fn starts() {
     start(65535);
 }
 
-// A finite ration.
+// Spends from a finite ration.
 fn spend_of(ration: u32, n: u32) {
     spend(Ration::Finite(ration), n);
 }

@@ -12,7 +12,7 @@ use wire::Role;
 use wire_connection_header::ReadHeader;
 use wire_read::Read;
 
-// A message that was read, and how many bytes of the input it has.
+// Prints a message that was read, and how many bytes of the input it has.
 fn taken(m: Message) {
     show::text(b": ok ");
     show::message(m);
@@ -35,7 +35,7 @@ fn role_of(name: &[u8]) -> Role {
     }
 }
 
-// The number behind a parenthesis, or else n.
+// The number behind a parenthesis, or n if there is none.
 fn count(s: &[u8], n: usize) -> usize {
     if 0 < s.len() {
         if let Size::Is(k) = script_words::size_of(head(&s[1..]), 65600) {
@@ -45,14 +45,14 @@ fn count(s: &[u8], n: usize) -> usize {
     n
 }
 
-// Puts bytes at the start of a room, and gives the number of all that are meant.
+// Puts bytes at the start of a room, and returns how many bytes are meant in all.
 fn put_bytes(digits: &[u8], room: &mut [u8]) -> usize {
     let k = find(digits, 0, digits.len(), b'(');
     let n = from_hex(first(digits, k), room);
     count(&digits[k..], n)
 }
 
-// What the sender's name and the bytes of a message are read as.
+// Prints what the bytes of a message, behind the name of their sender, are read as.
 fn message(line: &[u8]) {
     let mut bytes = [0u8; 65600];
     let n = put_bytes(tail(line), &mut bytes);
@@ -73,7 +73,7 @@ fn header(digits: &[u8]) {
     header_answer(wire_connection_header::read_connection_header(first(&bytes, n)));
 }
 
-// A line of the table, with what its bytes are read as behind it.
+// Prints a line of the table, and behind it what its bytes are read as.
 fn line(line: &[u8]) {
     if script_words::is_skipped(line) {
         return;

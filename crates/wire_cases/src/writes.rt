@@ -4,7 +4,7 @@ use wire::Message;
 use wire::Role;
 use wire_connection_header::Written;
 
-// What was written, and whether the byte after it is still the one that was lent.
+// Prints what was written, and the bytes of the room behind it.
 fn wrote(n: usize, room: &[u8]) {
     if n <= room.len() {
         show::part(b": wrote ", text_line::first(room, n));
@@ -95,7 +95,7 @@ fn session_messages() {
     write(Role::Server, data(false, true, true, true, 127, 1), b"z");
 }
 
-// Messages of the other sender, and flags of the other.
+// Messages and flags of the other sender.
 fn senders() {
     write_bare(Role::Client, Message::Shutdown { length: 0 });
     write_bare(Role::Server, Message::Acknowledgment { session: 7 });

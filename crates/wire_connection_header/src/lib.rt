@@ -1,4 +1,4 @@
-// The header that each direction begins with, read and written.
+// The header at the start of each direction, read and written.
 mod reading;
 mod writing;
 
@@ -14,7 +14,7 @@ pub enum ParsedHeader {
     Violated(Violation),
 }
 
-// What connection header stands first in an input.
+// The connection header at the front of an input, or why there is none.
 pub enum ReadHeader {
     Number(u16),
     Incomplete,

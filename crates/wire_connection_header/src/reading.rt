@@ -37,7 +37,7 @@ pub fn parse_connection_header(bytes: [u8; 8]) -> ParsedHeader
     ParsedHeader::Violated(Violation::BadHeader)
 }
 
-// The connection header that stands first in the input.
+// The connection header at the front of the input.
 pub fn read_connection_header(input: &[u8]) -> ReadHeader
     ensures { λ r. ⌜ headerReadAs r ≡ readConnectionHeader (now (input .entry)) ⌝ }
 {

@@ -1,4 +1,4 @@
--- What the rule of the Data flags reads to each sender, by cases on the flags.
+-- What the rule of the Data flags says for each sender, by cases on the flags.
 use mathlib.Core.Path.{_≡_, refl}
 use mathlib.Core.Bool.{Bool, true, false, not, _||_}
 use Rattle.wire.specs.declared.Role.{Role}

@@ -22,7 +22,7 @@ pub fn body_length(m: Message) -> u16
     }
 }
 
-// Two to the power of twice a shift, which counts by its low three bits.
+// Two to the power of twice a shift; only the low three bits of the shift count.
 fn factor(shift: u8) -> u32
     ensures { λ r. ⌜ (r ≡ 2 ^ (2 * (shift % 8))) × (r ≤ 16384) ⌝ }
 {

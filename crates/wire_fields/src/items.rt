@@ -40,7 +40,7 @@ pub fn number_of(m: Message) -> u16
     }
 }
 
-// The shift of an IncrementRation, and 0 of any other message.
+// The shift of an IncrementRation, or 0 for any other message.
 pub fn shift_of(m: Message) -> u8
     ensures { λ r. ⌜ r ≡ shiftOf m ⌝ }
 {

@@ -1,4 +1,4 @@
-// What holds of a message whatever reads or writes it: its items, how many bytes it tells of, and whose it is to send.
+// What reader and writer share about a message: its items, how many bytes follow it or are granted by it, and who may send it.
 mod amounts;
 mod items;
 mod roles;

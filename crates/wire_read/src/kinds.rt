@@ -24,7 +24,7 @@ pub(crate) fn kind_of(first: u8) -> Named
     kind_of_one(first)
 }
 
-// The type that a first byte names, where it is of none with items in that byte.
+// The type that a first byte names, if it is not a type with items in that byte.
 fn kind_of_one(first: u8) -> Named
     requires { ⌜ (first / 16 ≡ 1 → ⊥) × (first / 4 ≡ 8 → ⊥) × (first / 32 ≡ 4 → ⊥) ⌝ }
     ensures { λ r. ⌜ r ≡ kindOf first ⌝ }

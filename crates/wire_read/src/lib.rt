@@ -14,7 +14,7 @@ pub enum Parsed {
     Violated(Violation),
 }
 
-// What message stands first in an input.
+// The message at the front of an input, or why there is none.
 pub enum Read {
     Message(Message),
     Incomplete,

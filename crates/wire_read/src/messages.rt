@@ -1,4 +1,4 @@
-// What bytes say: the four header bytes of a message, and the message that stands first in an input.
+// What bytes say: the four header bytes of a message, and the message at the front of an input.
 use crate::Parsed;
 use crate::Read;
 use crate::kinds::kind_of;
@@ -17,7 +17,7 @@ ghost use mathlib.Core.List.{_∷_, []};
 ghost use Rattle.wire.specs.Message.{allowed, parseHeader, withBody, readMessage};
 ghost use Rattle.wire_read.specs.Answer.{parsedAs, readAs};
 
-// The message, where the sender may send it.
+// The message, if the sender may send it.
 fn if_allowed(from: Role, kind: Kind, m: Message) -> Parsed
     ensures { λ r. ⌜ parsedAs r ≡ allowed from kind m ⌝ }
 {
@@ -47,7 +47,7 @@ pub fn parse_header(from: Role, first: u8, second: u8, third: u8, fourth: u8) ->
     }
 }
 
-// The message, where its body is all there.
+// The message, if its body is complete.
 fn with_body(have: usize, parsed: Parsed) -> Read
     ensures { λ r. ⌜ readAs r ≡ withBody have (parsedAs parsed) ⌝ }
 {
@@ -63,7 +63,7 @@ fn with_body(have: usize, parsed: Parsed) -> Read
     }
 }
 
-// The message from a sender that stands first in the input.
+// The message from a sender at the front of the input.
 pub fn read_message(from: Role, input: &[u8]) -> Read
     ensures { λ r. ⌜ readAs r ≡ readMessage from (now (input .entry)) ⌝ }
 {

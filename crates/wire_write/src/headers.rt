@@ -16,7 +16,7 @@ fn weight(w: u8, set: bool) -> u8
     0
 }
 
-// The first byte of a message; a shift counts by its low three bits.
+// The first byte of a message; only the low three bits of a shift count.
 fn first_byte(m: Message) -> u8
     ensures { λ r. ⌜ r ≡ firstByte m ⌝ }
 {

@@ -17,7 +17,7 @@ ghost use Rattle.laws.specs.Room.{atFront};
 ghost use Rattle.wire.specs.Message.{header, writable, writeMessage};
 ghost use Rattle.wire_connection_header.specs.Answer.{writtenAs};
 
-// Puts the header of a message and a body at the front of a room that holds both, and answers how many bytes they are; a
+// Puts the header of a message and a body at the front of a room that holds both, and returns how many bytes they are; a
 // room that is too small stays as lent.
 pub fn put_message(m: Message, body: &[u8], room: &mut [u8]) -> usize
     ensures { λ r. ⌜ (r, now (room .exit)) ≡ atFront (header m ++ now (body .entry)) (now (room .entry)) ⌝ }
@@ -34,7 +34,7 @@ pub fn put_message(m: Message, body: &[u8], room: &mut [u8]) -> usize
     4 + body.len()
 }
 
-// Whether the reader gives the message back, with so many bytes after its header.
+// Whether the reader gives the message back, with `len` bytes after its header.
 fn may_write(from: Role, m: Message, len: usize) -> bool
     ensures { λ r. ⌜ r ≡ writable from m len ⌝ }
 {
@@ -46,7 +46,7 @@ fn may_write(from: Role, m: Message, len: usize) -> bool
     shift & session & sender & flags & body
 }
 
-// Writes a message of a sender's and the bytes that follow it.
+// Writes a message from a sender and the bytes that follow it.
 pub fn write_message(from: Role, m: Message, body: &[u8], room: &mut [u8]) -> Written
     ensures { λ r. ⌜ (writtenAs r, now (room .exit)) ≡ writeMessage from m (now (body .entry)) (now (room .entry)) ⌝ }
 {

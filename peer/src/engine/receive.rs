@@ -26,7 +26,7 @@ impl Engine {
         answer
     }
 
-    /// Takes the far header; a server answers with its own, to a bad one too.
+    /// Takes the far header; a server answers even a bad one with its own.
     fn receive_header(&mut self, input: &[u8], out: &mut Vec<u8>) -> Result<Taken, u8> {
         let answer = wire::read_header(input);
         if self.role == Role::Server && answer != Err(refusal::INCOMPLETE) {

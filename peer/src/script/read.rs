@@ -6,7 +6,7 @@ use super::{
 };
 use crate::wire::Role;
 
-/// The words of one line; an empty word stands between two spaces and fits nowhere.
+/// The words of one line; between two spaces there is an empty word, which fits nowhere.
 struct Words<'a> {
     rest: Option<&'a [u8]>,
 }
@@ -51,7 +51,7 @@ impl<'a> Words<'a> {
         read_bytes(self.next()?, largest)
     }
 
-    /// Gives the room if a word is left, and fails if that word is no room.
+    /// Gives the room if a word is left, and fails if that word is not a room.
     fn room(&mut self) -> Option<Room> {
         if self.rest.is_none() {
             return Some(None);

@@ -1,4 +1,4 @@
--- `conclude_put` meets its contract: each arm is a case of `decision`, and the queue is set where the session takes the bytes.
+-- `conclude_put` meets its contract: each arm is a case of `decision`, and the queue is set if the session takes the bytes.
 use denote.Ref.{now}
 use borrow.Author.Needs.{needs}
 use Rattle.call_put.proofs.Queued.{put-taken, put-refused}

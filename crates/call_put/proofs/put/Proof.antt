@@ -1,4 +1,4 @@
--- `put` meets its contract: the gate, then what is asked of the session, then the slot.
+-- `put` meets its contract: the gate, then the session's step, then the slot.
 use mathlib.Core.Path.{_≡_, refl, ap, _∙_}
 use lib.ListN.{length}
 use denote.Ref.{now}

@@ -1,4 +1,4 @@
--- `next_at` meets its contract: past the end it is 14, and else what the message reader says of the slice from the place on.
+-- `next_at` meets its contract: past the end it is 14, else what the message reader says about the slice from the place on.
 use mathlib.Core.Path.{_∙_}
 use Rattle.capture_rules.proofs.Steps.{past-end, in-slice, stepped}
 use borrow.Author.Needs.{needs}

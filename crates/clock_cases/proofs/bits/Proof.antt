@@ -1,4 +1,4 @@
--- `bits` asks for the bits of no NaN: only NaN differs from itself.
+-- `bits` never asks for the bits of a NaN: only NaN differs from itself.
 use mathlib.Core.Path.{_≡_}
 use mathlib.Core.Bool.{true, not, false≢true}
 use lib.Dec.{T}

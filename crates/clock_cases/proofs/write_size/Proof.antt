@@ -1,4 +1,4 @@
--- `write_size` truncates a number in range only: from its two tests.
+-- `write_size` truncates only a number that is in range: from its two tests.
 use mathlib.Core.Path.{sym, subst}
 use lib.Dec.{T}
 use lib.Ieee.{ofBits, neg}

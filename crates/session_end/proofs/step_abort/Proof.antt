@@ -1,4 +1,4 @@
--- `step_abort` meets its contract: the role is asked first, then `abort_of` answers.
+-- `step_abort` meets its contract: the role is checked first, then `abort_of` answers.
 use borrow.Author.Needs.{needs}
 use Rattle.protocol.specs.Plan.{settle}
 use Rattle.protocol.specs.Ask.{abortAsk}

@@ -1,4 +1,4 @@
--- `step_close` meets its contract: the role is asked first, then `close_of` answers.
+-- `step_close` meets its contract: the role is checked first, then `close_of` answers.
 use borrow.Author.Needs.{needs}
 use Rattle.protocol.specs.Plan.{settle}
 use Rattle.protocol.specs.Ask.{closeAsk}

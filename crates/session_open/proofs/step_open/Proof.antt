@@ -1,4 +1,4 @@
--- `step_open` meets its contract: the role is asked first, then `open_of` answers.
+-- `step_open` meets its contract: the role is checked first, then `open_of` answers.
 use borrow.Author.Needs.{needs}
 use Rattle.protocol.specs.Plan.{settle}
 use Rattle.protocol.specs.Ask.{openAsk}

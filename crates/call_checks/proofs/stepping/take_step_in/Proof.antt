@@ -1,4 +1,4 @@
--- `take_step_in` meets its contract: the gate, then what the step comes to.
+-- `take_step_in` meets its contract: the gate, then the result of the step.
 use mathlib.Core.Path.{ap, _∙_}
 use lib.ListN.{length}
 use denote.Ref.{now}

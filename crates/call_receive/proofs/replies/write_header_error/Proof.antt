@@ -1,4 +1,4 @@
--- `write_header_error` meets its contract: the Error stands behind the header.
+-- `write_header_error` meets its contract: the Error follows the header.
 use denote.Ref.{now}
 use borrow.Author.Needs.{needs}
 use Rattle.call_receive.proofs.Rooms.{header-error}

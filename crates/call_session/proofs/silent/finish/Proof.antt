@@ -1,4 +1,4 @@
--- `finish` meets its contract: what is asked of the session, by the rule of the call.
+-- `finish` meets its contract: the session's step, by the rule of the call.
 use mathlib.Core.Path.{refl, ap, _∙_}
 use mathlib.Core.List.{[]}
 use borrow.Author.Needs.{needs}

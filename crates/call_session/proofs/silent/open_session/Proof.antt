@@ -1,4 +1,4 @@
--- `open_session` meets its contract: what is asked of the session, by the rule of the call.
+-- `open_session` meets its contract: the session's step, by the rule of the call.
 use mathlib.Core.Path.{ap, _∙_}
 use mathlib.Core.List.{[]}
 use borrow.Author.Needs.{needs}

@@ -1,4 +1,4 @@
--- `take_step` meets its contract: the gate, then what the step comes to.
+-- `take_step` meets its contract: the gate, then the result of the step.
 use mathlib.Core.Path.{ap, _∙_}
 use mathlib.Core.List.{[]}
 use borrow.Author.Needs.{needs}

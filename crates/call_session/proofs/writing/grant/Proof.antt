@@ -1,4 +1,4 @@
--- `grant` meets its contract: what is asked of the session, by the rule of the call.
+-- `grant` meets its contract: the session's step, by the rule of the call.
 use mathlib.Core.Path.{ap, _∙_}
 use lib.ListN.{length}
 use denote.Ref.{now}

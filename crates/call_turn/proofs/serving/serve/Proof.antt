@@ -1,4 +1,4 @@
--- `serve` meets its contract: what is asked of the session, then `conclude_turn`.
+-- `serve` meets its contract: the session's step, then `conclude_turn`.
 use mathlib.Core.Path.{ap, _∙_}
 use denote.Ref.{now}
 use borrow.Author.Needs.{needs}

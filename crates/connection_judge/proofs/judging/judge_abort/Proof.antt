@@ -1,4 +1,4 @@
--- `judge_abort` meets its contract: what the session's step comes to decides.
+-- `judge_abort` meets its contract: the result of the session's step decides.
 use mathlib.Core.Path.{refl}
 use borrow.Author.Needs.{needs}
 use Rattle.protocol.specs.Connection.{ownStart, farStart}

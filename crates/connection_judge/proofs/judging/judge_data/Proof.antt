@@ -1,4 +1,4 @@
--- `judge_data` meets its contract: what the session's step comes to decides.
+-- `judge_data` meets its contract: the result of the session's step decides.
 use borrow.Author.Needs.{needs}
 use Rattle.protocol.specs.Message.{data-of}
 use Rattle.connection_judge.proofs.Judgments.{stepped}

@@ -1,4 +1,4 @@
--- `judge_increment` meets its contract: what the session's step comes to decides.
+-- `judge_increment` meets its contract: the result of the session's step decides.
 use mathlib.Core.Path.{refl, ap, _∙_}
 use Prim.Native.Nat.{ℕ}
 use borrow.Author.Needs.{needs}

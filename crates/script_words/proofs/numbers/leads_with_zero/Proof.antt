@@ -1,4 +1,4 @@
--- `leads_with_zero` meets its contract: the length is asked first, as in the definition.
+-- `leads_with_zero` meets its contract: the length is tested first, as in the definition.
 use mathlib.Core.Path.{ap, sym}
 use mathlib.Core.Bool.{Bool, _&&_}
 use borrow.Author.Tests.{lt-ltb, le-ltb}

@@ -1,4 +1,4 @@
--- `has_more` meets its contract: a space stands before the end.
+-- `has_more` meets its contract: there is a space before the end.
 use mathlib.Core.Path.{ap}
 use lib.ListN.{length}
 use lib.Dec.{ltb}

@@ -16,7 +16,7 @@ use Rattle.session_receive.specs.Receipt.{toReceipt}
 use Rattle.session_receive.proofs.data_messages.data_to_open.Statement.{statement}
 use Rattle.session_receive.proofs.data_messages.data_to_open.Tie as tie
 
--- the ration is asked before the close flag
+-- the ration is checked before the close flag
 above : (r : Role) (x : Session) (n : ℕ) (close : Bool) (theirs : Side) → allows (x .inbound) n ≡ false
     → violation 26 ≡ toReceipt (dataTo r x n close side.Open theirs)
 unfolding settle

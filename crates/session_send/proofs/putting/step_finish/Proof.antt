@@ -1,4 +1,4 @@
--- `step_finish` meets its contract: the check, and then the finish is asked.
+-- `step_finish` meets its contract: the check, and then the finish is asked for.
 use borrow.Author.Needs.{needs}
 use Rattle.protocol.specs.Plan.{settle}
 use Rattle.protocol.specs.Ask.{finishAsk}

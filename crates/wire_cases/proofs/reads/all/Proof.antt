@@ -1,4 +1,4 @@
--- `all` is safe and ends: a line lies within the table, and what is left of the table falls.
+-- `all` is safe and ends: a line is within the table, and what is left of the table falls.
 use Prim.Native.Nat.{_-_}
 use lib.ListN.{length}
 use borrow.Author.Needs.{needs}

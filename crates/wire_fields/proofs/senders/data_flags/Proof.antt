@@ -1,4 +1,4 @@
--- `data_flags` meets its contract, by what the rule reads to each sender.
+-- `data_flags` meets its contract, by what the rule says for each sender.
 use Rattle.wire_fields.proofs.Flags.{client-flags, server-eof-flags, server-flags}
 use borrow.Author.Needs.{needs}
 use Rattle.wire_fields.proofs.senders.data_flags.Statement.{statement}
