@@ -155,7 +155,7 @@ impl Options {
                 return Err(format!("`{name}` is not known here"));
             }
             if pairs.iter().any(|(earlier, _)| earlier == name) {
-                return Err(format!("`{name}` stands twice"));
+                return Err(format!("`{name}` is given twice"));
             }
             let value = match name.as_str() {
                 "--full" => String::new(),
