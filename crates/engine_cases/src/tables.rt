@@ -124,7 +124,7 @@ fn run_line(b: Bench, text: &[u8]) -> Bench {
 }
 
 // A line of a table: of a run by a space in the fourth place, of a receipt by one in the tenth, or else a row. A comment
-// and an empty line are passed over.
+// and an empty line are skipped.
 fn put(b: Bench, text: &[u8]) -> Bench {
     let start = letter(text, 0);
     if (start == b'#') | (start == b' ') {

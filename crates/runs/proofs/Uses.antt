@@ -14,6 +14,7 @@ use Rattle.wire.specs.declared.Message.{Message}
 use Rattle.wire.specs.declared.Message.the-variants as msg
 use Rattle.wire.specs.Message.{readMessage}
 use Rattle.state.specs.declared.Setup.{Setup}
+use Rattle.state.specs.declared.Connection.{Connection}
 use Rattle.state.specs.declared.Session.{Session}
 use Rattle.state.specs.declared.Outcome.{Outcome}
 use Rattle.state.specs.With.{withOutcome}
@@ -24,7 +25,7 @@ use Rattle.history.specs.Log.{Call, start, open-session, put, finish, grant, ab
 use Rattle.history.specs.Account.{Account, observed}
 use Rattle.history.specs.Answers.{answerTold}
 use Rattle.history.specs.Meant.{ReadInOrder, mayGo}
-use Rattle.history.specs.Claims.{takesInput, RestZero, SameButOutcome}
+use Rattle.history.specs.Claims.{takesInput, RestZero, SameButOutcome, OnlyOver}
 use Rattle.history.proofs.Speaking.{reads-back}
 use Rattle.history.proofs.Reading.{receive-reads}
 use Rattle.runs.proofs.Played.{played, client, zeros, queue, starts, receives, turns, taken, took}
@@ -132,6 +133,12 @@ rest-in-numbers t n z = z
 pub same-once-set : (o : Outcome) (x y : Session) → SameButOutcome x y → withOutcome o x ≡ withOutcome o y
 same-once-set o x y e i =
     record { sides = e .sides i; outbound = e .outbound i; inbound = e .inbound i; waiting = e .waiting i; finish = e .finish i; outcome = o }
+
+-- a connection that is over, with only outcomes changed, is the one before in every part but its sessions
+pub only-over-whole : (before after : Connection) → OnlyOver before after
+    → after ≡ record { sessions = after .sessions; stage = before .stage; over = true; own = before .own; last = before .last; ping = before .ping }
+only-over-whole before after e i =
+    record { sessions = after .sessions; stage = e .stage i; over = e .over i; own = e .own i; last = e .last i; ping = e .ping i }
 
 pub counted-twice : times 5 (5 ∷ 6 ∷ 5 ∷ []) ≡ 2
 unfolding times pick

@@ -1,4 +1,4 @@
--- A session and a connection with some parts set. No definition names every part but the blank session and the fresh connection in `New`.
+-- A session and a connection with some parts set. Only these definitions and `New` make one from all its parts.
 use Prim.Native.Nat.{ℕ}
 use mathlib.Core.Bool.{Bool}
 use mathlib.Core.List.{List}
