@@ -55,7 +55,7 @@ struct Taste {
     looks: u64,
     /// How many of a hundred deliveries are cut.
     cuts: u64,
-    /// How likely in a hundred a message takes a number towards the largest ration.
+    /// How many of a hundred messages bring a ration near to the largest.
     brim: u64,
     /// Weights of near calls, far acts, deliveries to the near end and to the far end.
     tempo: [u32; 4],

@@ -10,7 +10,7 @@ fn text(bytes: &[u8]) {
     io::write_all(STDOUT_FILENO, bytes);
 }
 
-// Writes a size with three decimals, cut off, or 'large' from 2 ^ 64 thousandths up.
+// Writes a size with three decimals, cut off; or 'large' for NaN, for -0.001 and below, and from 2 ^ 64 thousandths up.
 fn write_size(size: f64) {
     let thousandths = size * 1000.0;
     if thousandths > -1.0 {

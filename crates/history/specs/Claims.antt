@@ -43,7 +43,7 @@ use Rattle.history.specs.Meant.{headerDue, meantBy, ReadInOrder, mayGo}
 use Rattle.history.specs.Sums.{summed}
 use Rattle.history.specs.Fates.{fateTold}
 
--- ---- the words of the third demand
+-- ---- the words of the third demand, that nobody waits for ever
 
 -- a session number is ready, as the log so far tells it
 abbrev pub ready : Setup → ℕ → List Entry → Bool
@@ -235,7 +235,7 @@ abbrev pub mayCome : Setup → List Entry → Scope → Bool
 mayCome s a (whole w) = wholeMayArrive (observed s 0 a .line .pinging) w
 mayCome s a (of-session i x) = mayArrive (s .role) (fromHeader (s .header)) (observed s i a .seen) x
 
--- a message is late if it crossed our end of its session
+-- a message is late if it crossed our eof, Abort or Close
 abbrev pub lateOf : Setup → List Entry → Scope → Bool
 lateOf s a (whole w) = false
 lateOf s a (of-session i x) = lateFor (observed s i a .seen .standing) x

@@ -1,4 +1,4 @@
--- A message is reported late exactly if it crossed our end of the session, as it is observed: from the rules.
+-- A message is reported late exactly if it crossed our eof, Abort or Close, as observed: from the rules.
 use mathlib.Core.Path.{_≡_, refl}
 use mathlib.Core.Bool.{Bool, true, false}
 use Prim.Native.Nat.{ℕ}

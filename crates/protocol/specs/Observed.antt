@@ -182,7 +182,7 @@ endsAfter v (wrote acknowledgment-of) = v
 
 -- ---- what the far end may still send: our start, plus what was granted, less the Data taken and not late
 
--- a message that crossed our end of the session: Data where we have terminated it, an increment where we send no more
+-- a message that crossed our eof, Abort or Close: Data where we have terminated the session, an increment where we send no more
 abbrev pub lateFor : Ends → SessionMessage → Bool
 lateFor unused m = false
 lateFor (ends o t) (data-of n true close eof ack) = false

@@ -23,7 +23,7 @@ pub data Move : Type 0 where
   to : Side → Move
   wrong : Move
 
--- any message from an ended side is wrong, and so are Data from a finished side and Close from an unfinished one
+-- any message from an ended side is wrong, and so are Data from a finished side, Close from an unfinished one, and an open Data
 abbrev pub follow : Side → SessionMessage → Move
 follow side.Open (data-of n true close eof ack) = wrong
 follow side.Open (data-of n false close eof ack) = to (afterData close eof)
