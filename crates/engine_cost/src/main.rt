@@ -8,6 +8,7 @@ mod rounds;
 use engine::QUEUE_SIZE;
 use libc::STDERR_FILENO;
 use libc::STDOUT_FILENO;
+use rounds::ROOM_SIZE;
 
 fn put(name: &[u8], count: u64) {
     io::write_all(STDOUT_FILENO, name);
@@ -15,7 +16,7 @@ fn put(name: &[u8], count: u64) {
     io::write_all(STDOUT_FILENO, b"\n");
 }
 
-fn all(queue: &mut [u8; QUEUE_SIZE], room: &mut [u8; 260]) {
+fn all(queue: &mut [u8; QUEUE_SIZE], room: &mut [u8; ROOM_SIZE]) {
     put(b"table ", rounds::tables());
     put(b"wellformed ", rounds::checks());
     put(b"turn ", rounds::turns(queue, room));
@@ -24,7 +25,7 @@ fn all(queue: &mut [u8; QUEUE_SIZE], room: &mut [u8; 260]) {
 }
 
 // Runs the loop that a word names.
-fn run(word: &[u8], queue: &mut [u8; QUEUE_SIZE], room: &mut [u8; 260]) {
+fn run(word: &[u8], queue: &mut [u8; QUEUE_SIZE], room: &mut [u8; ROOM_SIZE]) {
     if check::same(word, b"table") {
         put(b"table ", rounds::tables());
     } else if check::same(word, b"wellformed") {
@@ -59,14 +60,14 @@ fn wide(byte: u8) -> u64 {
 }
 
 // Prints what is left in queue and room.
-fn left(queue: &[u8; QUEUE_SIZE], room: &[u8; 260]) {
+fn left(queue: &[u8; QUEUE_SIZE], room: &[u8; ROOM_SIZE]) {
     put(b"queue ", sum(queue));
     put(b"room ", sum(room));
 }
 
 fn main() {
     let mut queue = [0x61u8; QUEUE_SIZE];
-    let mut room = [0u8; 260];
+    let mut room = [0u8; ROOM_SIZE];
     if os::arg_count() < 2 {
         all(&mut queue, &mut room);
     } else {

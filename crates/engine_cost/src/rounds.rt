@@ -8,6 +8,7 @@ use engine::Outcome;
 use engine::QUEUE_SIZE;
 use engine::Ration;
 use engine::Role;
+use engine::SLOT_SIZE;
 use engine::Session;
 use engine::Setup;
 use engine::Side;
@@ -15,6 +16,9 @@ use engine::Sides;
 use engine::Stage;
 
 const ROUNDS: u64 = 100000;
+
+// The room that turn needs; no other call needs more.
+pub(crate) const ROOM_SIZE: usize = 4 + (SLOT_SIZE as usize);
 
 // The connection after a round, and how many calls were taken so far.
 struct Round {
@@ -106,7 +110,7 @@ fn check_round(r: Round, n: u8, waiting: u16) -> Round {
     }
 }
 
-fn turn_round(r: Round, n: u8, queue: &mut [u8; QUEUE_SIZE], room: &mut [u8; 260]) -> Round {
+fn turn_round(r: Round, n: u8, queue: &mut [u8; QUEUE_SIZE], room: &mut [u8; ROOM_SIZE]) -> Round {
     let c = r.connection;
     after(engine::turn(c, queue, room), r.taken, n, 16)
 }
@@ -116,7 +120,7 @@ fn put_round(r: Round, n: u8, queue: &mut [u8; QUEUE_SIZE]) -> Round {
     after(engine::put(c, n, b"0123456789abcdef", queue), r.taken, n, 0)
 }
 
-fn receive_round(r: Round, n: u8, room: &mut [u8; 260]) -> Round {
+fn receive_round(r: Round, n: u8, room: &mut [u8; ROOM_SIZE]) -> Round {
     let c = r.connection;
     let called = engine::receive(c, b"\x80\x05\x00\x100123456789abcdef", room);
     after(called, r.taken, n, 0)
@@ -144,7 +148,7 @@ pub(crate) fn checks() -> u64 {
 }
 
 // Each turn sends the 16 bytes of the session whose turn it is, and they wait again for the next time.
-pub(crate) fn turns(queue: &mut [u8; QUEUE_SIZE], room: &mut [u8; 260]) -> u64 {
+pub(crate) fn turns(queue: &mut [u8; QUEUE_SIZE], room: &mut [u8; ROOM_SIZE]) -> u64 {
     let mut r = begun(16);
     let mut i: u64 = 0;
     while i < ROUNDS {
@@ -166,7 +170,7 @@ pub(crate) fn puts(queue: &mut [u8; QUEUE_SIZE]) -> u64 {
 }
 
 // Each receipt is a Data message of 16 bytes.
-pub(crate) fn receipts(room: &mut [u8; 260]) -> u64 {
+pub(crate) fn receipts(room: &mut [u8; ROOM_SIZE]) -> u64 {
     let mut r = begun(0);
     let mut i: u64 = 0;
     while i < ROUNDS {

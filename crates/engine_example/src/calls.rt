@@ -4,11 +4,12 @@ use engine::Connection;
 use engine::Message;
 use engine::QUEUE_SIZE;
 use engine::Role;
+use engine::SLOT_SIZE;
 use libc::STDOUT_FILENO;
 use text_line::first;
 
 // The room that turn needs; no other call needs more.
-pub(crate) const ROOM_SIZE: usize = 260;
+pub(crate) const ROOM_SIZE: usize = 4 + (SLOT_SIZE as usize);
 
 // Sends what a call wrote, the first bytes of its room.
 pub(crate) fn send(called: Called, room: &[u8; ROOM_SIZE]) {
