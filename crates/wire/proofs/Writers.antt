@@ -57,7 +57,7 @@ module _ (from : Role) (m : Message) (body room : List ℕ) where
           record {
             count = sym same;
             fits = rw same at f;
-            stands = sym (ap after q) ∙ ap (λ (i : ℕ). header m ++ body ++ drop i room) same;
+            bytes = sym (ap after q) ∙ ap (λ (i : ℕ). header m ++ body ++ drop i room) same;
             reads = ap (readMessage from) (sym (ap after q)) ∙ read-written from m body n w (drop (4 + length body) room);
           }
       go (no-room w f p) = absurd (refused-not-ok (ap answer (sym p ∙ e)))

@@ -28,5 +28,5 @@ pub record NumberBack (n : ℕ) : Type 0 where
 pub record WroteMessage (from : Role) (m : Message) (body room : List ℕ) (k : ℕ) (out : List ℕ) : Type 0 where
   pub count : k ≡ 4 + length body
   pub fits : k ≤ length room
-  pub stands : out ≡ header m ++ body ++ drop k room
+  pub bytes : out ≡ header m ++ body ++ drop k room
   pub reads : readMessage from out ≡ ok m
