@@ -36,17 +36,17 @@ use Rattle.history.proofs.Decisions.{outBy, out-is}
 use Rattle.history.specs.Meaning.{Line}
 use Rattle.history.specs.Account.{Account, observed}
 use Rattle.history.specs.Meant.{headerDue}
-use Rattle.history.specs.Claims.{Listening, Awaiting, headerAnswer, AtFront, ReceiveReads}
+use Rattle.history.specs.Claims.{Listening, Awaiting, headerAnswer, ReportsFront, ReceiveReads}
 use Rattle.history.proofs.Good.{setupOf, lineOf}
 use Rattle.history.proofs.Simulation.{observed-is, run-made, same-setup, ok-formed}
 use Rattle.history.proofs.Entries.{call-told, of-entries}
 
 -- ---- what is taken is at the front of the input
 
-abbrev DecidedAtFront : Setup → State → Call → List ℕ → Decision → Type 0
-DecidedAtFront z s k input (refuse n) = Unit {0}
-DecidedAtFront z s k input (violate b) = Unit {0}
-DecidedAtFront z s k input (accept e) = AtFront z input (outBy s k (accept e)) (e .report)
+abbrev DecidesFront : Setup → State → Call → List ℕ → Decision → Type 0
+DecidesFront z s k input (refuse n) = Unit {0}
+DecidesFront z s k input (violate b) = Unit {0}
+DecidesFront z s k input (accept e) = ReportsFront z input (outBy s k (accept e)) (e .report)
 
 header-long : (input : List ℕ) (far : ℕ) → readConnectionHeader input ≡ ok far → 8 ≤ length input
 unfolding readConnectionHeader pick
@@ -60,17 +60,17 @@ module _ (s : State) (k : Call) (input : List ℕ) where
   abbrev c : Connection
   c = s .connection
 
-  header-at-front : (r : Role) (h : Result ℕ) → readConnectionHeader input ≡ h → DecidedAtFront (setupOf (s .connection)) s k input (headerTaken c r h)
-  header-at-front r (ok far) q = (q, refl, header-long input far q, refl, refl)
-  header-at-front r (refused n) q = tt
-  header-at-front r (violation n) q = tt
+  header-front : (r : Role) (h : Result ℕ) → readConnectionHeader input ≡ h → DecidesFront (setupOf (s .connection)) s k input (headerTaken c r h)
+  header-front r (ok far) q = (q, refl, header-long input far q, refl, refl)
+  header-front r (refused n) q = tt
+  header-front r (violation n) q = tt
 
-  tells-at-front : (m : Message) → readMessage (otherEnd (roleOf (c .stage))) input ≡ ok m → (d : Decision) → Tells m d → DecidedAtFront (setupOf (s .connection)) s k input d
-  tells-at-front m q (refuse n) w = tt
-  tells-at-front m q (violate b) w = tt
-  tells-at-front m q (accept e) w =
+  tells-front : (m : Message) → readMessage (otherEnd (roleOf (c .stage))) input ≡ ok m → (d : Decision) → Tells m d → DecidesFront (setupOf (s .connection)) s k input d
+  tells-front m q (refuse n) w = tt
+  tells-front m q (violate b) w = tt
+  tells-front m q (accept e) w =
       let same : e .report ≡ message m (w .0) = w .1 in
-      subst (λ (r : Report). AtFront (setupOf (s .connection)) input (outBy s k (accept e)) r) (sym same) (
+      subst (λ (r : Report). ReportsFront (setupOf (s .connection)) input (outBy s k (accept e)) r) (sym same) (
         q,
         ap (λ (r : Report). extentOf r .used) same,
         message-holds (otherEnd (roleOf (c .stage))) input m q .long,
@@ -78,21 +78,21 @@ module _ (s : State) (k : Call) (input : List ℕ) where
         ap (λ (r : Report). extentOf r .end) same,
       )
 
-  message-at-front : (h : Result Message) → readMessage (otherEnd (roleOf (c .stage))) input ≡ h → DecidedAtFront (setupOf (s .connection)) s k input (messageTaken c h)
-  message-at-front (ok m) q = tells-at-front m q (judge c m) (judge-tells c m)
-  message-at-front (refused n) q = tt
-  message-at-front (violation n) q = tt
+  message-front : (h : Result Message) → readMessage (otherEnd (roleOf (c .stage))) input ≡ h → DecidesFront (setupOf (s .connection)) s k input (messageTaken c h)
+  message-front (ok m) q = tells-front m q (judge c m) (judge-tells c m)
+  message-front (refused n) q = tt
+  message-front (violation n) q = tt
 
-  reading-at-front : (st : Stage) → c .stage ≡ st → DecidedAtFront (setupOf (s .connection)) s k input (reading c input st)
-  reading-at-front (stage.Fresh r) e = header-at-front r (readConnectionHeader input) refl
-  reading-at-front stage.Started e = header-at-front role.Client (readConnectionHeader input) refl
-  reading-at-front (stage.Up r far) e = message-at-front (readMessage (otherEnd r) input) (ap (λ (z : Stage). readMessage (otherEnd (roleOf z)) input) e)
+  reading-front : (st : Stage) → c .stage ≡ st → DecidesFront (setupOf (s .connection)) s k input (reading c input st)
+  reading-front (stage.Fresh r) e = header-front r (readConnectionHeader input) refl
+  reading-front stage.Started e = header-front role.Client (readConnectionHeader input) refl
+  reading-front (stage.Up r far) e = message-front (readMessage (otherEnd r) input) (ap (λ (z : Stage). readMessage (otherEnd (roleOf z)) input) e)
 
-  receive-at-front : (room : ℕ) → DecidedAtFront (setupOf (s .connection)) s k input (receiveRule c input room)
+  receive-front : (room : ℕ) → DecidesFront (setupOf (s .connection)) s k input (receiveRule c input room)
   unfolding receiveRule
-  receive-at-front room =
-      settled (DecidedAtFront (setupOf (s .connection)) s k input) refuse (λ go. reading c input (c .stage)) (receiveGate c room) (stops-all (λ n. tt) (receiveGate c room))
-      (takes-all (λ go. reading-at-front (c .stage) refl) (receiveGate c room))
+  receive-front room =
+      settled (DecidesFront (setupOf (s .connection)) s k input) refuse (λ go. reading c input (c .stage)) (receiveGate c room) (stops-all (λ n. tt) (receiveGate c room))
+      (takes-all (λ go. reading-front (c .stage) refl) (receiveGate c room))
 
 -- ---- a message is taken only past the checks
 
@@ -229,16 +229,16 @@ module _ (s : State) (k : Call) where
 
 -- the facts about one receive
 record Reads (s : Setup) (a : List Entry) (e : Entry) (input room : List ℕ) : Type 0 where
-  taken : (r : Report) → e .answer ≡ ok r → AtFront s input e r
+  taken : (r : Report) → e .answer ≡ ok r → ReportsFront s input e r
   headers : Awaiting s a (length room) → e .answer ≡ headerAnswer (readConnectionHeader input)
   awaited : (far : ℕ) → e .answer ≡ ok (header-received far) → Awaiting s a (length room)
   short : (n : ℕ) → Listening s a (length room) → readMessage (otherEnd (s .role)) input ≡ refused n → e .answer ≡ refused n
   broken : (n : ℕ) → Listening s a (length room) → readMessage (otherEnd (s .role)) input ≡ violation n → e .answer ≡ violation n
 
-at-front-taken : (s : Setup) (st : State) (k : Call) (input : List ℕ) (d : Decision) → DecidedAtFront s st k input d → (r : Report) → outBy st k d .answer ≡ ok r → AtFront s input (outBy st k d) r
-at-front-taken s st k input (refuse n) h r e = absurd (refused-not-ok e)
-at-front-taken s st k input (violate b) h r e = absurd (violation-not-ok e)
-at-front-taken s st k input (accept x) h r e = subst (λ (z : Report). AtFront s input (outBy st k (accept x)) z) (ok-same e) h
+front-taken : (s : Setup) (st : State) (k : Call) (input : List ℕ) (d : Decision) → DecidesFront s st k input d → (r : Report) → outBy st k d .answer ≡ ok r → ReportsFront s input (outBy st k d) r
+front-taken s st k input (refuse n) h r e = absurd (refused-not-ok e)
+front-taken s st k input (violate b) h r e = absurd (violation-not-ok e)
+front-taken s st k input (accept x) h r e = subst (λ (z : Report). ReportsFront s input (outBy st k (accept x)) z) (ok-same e) h
 
 module _ (setup : Setup) (hh : Proper setup) (queue : List ℕ) where
   line-is : (ks : List Call) → observed setup 0 (log.log setup queue ks) .line ≡ lineOf (log.run setup queue ks .connection)
@@ -271,8 +271,8 @@ module _ (setup : Setup) (hh : Proper setup) (queue : List ℕ) where
       record {
         taken =
             rw out-is
-            (at-front-taken setup s (receive input room) input (receiveRule (s .connection) input (length room))
-            (subst (λ (z : Setup). DecidedAtFront z s (receive input room) input (receiveRule (s .connection) input (length room))) (same-setup setup s o) (receive-at-front s (receive input room) input (length room))));
+            (front-taken setup s (receive input room) input (receiveRule (s .connection) input (length room))
+            (subst (λ (z : Setup). DecidesFront z s (receive input room) input (receiveRule (s .connection) input (length room))) (same-setup setup s o) (receive-front s (receive input room) input (length room))));
         headers =
             λ w. let due : headerDue (roleOf (log.run setup queue ks .connection .stage)) (greetingOf (log.run setup queue ks .connection .stage)) ≡ true =
             ap (λ (r : Role). headerDue r (greetingOf (log.run setup queue ks .connection .stage))) (o .role)

@@ -271,17 +271,17 @@ headerAnswer (refused n) = refused n
 headerAnswer (violation n) = violation n
 
 -- a report of what is at the front of the input, with its bytes and the place of its payload
-abbrev pub AtFront : Setup → List ℕ → Entry → Report → Type 0
-AtFront s input e done = ⊥
-AtFront s input e (served n) = ⊥
-AtFront s input e (header-received far) = (readConnectionHeader input ≡ ok far) × (e .used ≡ 8) × (8 ≤ length input) × (e .start ≡ 0) × (e .end ≡ 0)
-AtFront s input e (message m late) =
+abbrev pub ReportsFront : Setup → List ℕ → Entry → Report → Type 0
+ReportsFront s input e done = ⊥
+ReportsFront s input e (served n) = ⊥
+ReportsFront s input e (header-received far) = (readConnectionHeader input ≡ ok far) × (e .used ≡ 8) × (8 ≤ length input) × (e .start ≡ 0) × (e .end ≡ 0)
+ReportsFront s input e (message m late) =
     (readMessage (otherEnd (s .role)) input ≡ ok m) × (e .used ≡ 4 + bodyLength m) × (4 + bodyLength m ≤ length input)
     × (e .start ≡ 4) × (e .end ≡ 4 + bodyLength m)
 
 pub record ReceiveReads (s : Setup) (log : List Entry) : Type 0 where
   pub taken : (a c : List Entry) (e : Entry) (input room : List ℕ) (r : Report) → log ≡ a ++ (e ∷ c) → e .call ≡ receive input room
-      → e .answer ≡ ok r → AtFront s input e r
+      → e .answer ≡ ok r → ReportsFront s input e r
   -- a header is answered as it is read, and only where one is due; a message that is not read is refused as the reader refuses it
   pub headers : (a c : List Entry) (e : Entry) (input room : List ℕ) → log ≡ a ++ (e ∷ c) → e .call ≡ receive input room
       → Awaiting s a (length room) → e .answer ≡ headerAnswer (readConnectionHeader input)
