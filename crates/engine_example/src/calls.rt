@@ -11,7 +11,8 @@ use text_line::first;
 // The room that turn needs; no other call needs more.
 pub(crate) const ROOM_SIZE: usize = 4 + (SLOT_SIZE as usize);
 
-// Sends what a call wrote, the first bytes of its room.
+// Sends what a call wrote, the first bytes of its room. A pipe that nobody reads ends this program by a signal; on another line
+// a write that fails means that the line is lost.
 pub(crate) fn send(called: Called, room: &[u8; ROOM_SIZE]) {
     io::write_all(STDOUT_FILENO, first(room, called.wrote));
 }

@@ -79,7 +79,7 @@ fn step(
     End { connection, held }
 }
 
-// A new connection; a client sends its header at once.
+// A new connection. A client sends its header at once; at a server start is refused, and changes nothing.
 fn begin(role: Role, room: &mut [u8; ROOM_SIZE]) -> End {
     let c = Connection::new(Setup { role, header: 4 });
     let called = engine::start(c, room);

@@ -2,17 +2,19 @@
 use mathlib.Core.Path.{_≡_, refl}
 use mathlib.Core.Bool.{true, false}
 use mathlib.Core.List.{List, [], _∷_, _++_}
-use Prim.Native.Nat.{ℕ}
+use Prim.Native.Nat.{ℕ, _≤_}
 use native.Mathlib.Omega.{arith}
 use lib.ListN.{length}
-use Rattle.laws.specs.Runs.{Every}
+use Rattle.laws.specs.Circle.{nearest}
+use Rattle.laws.specs.Runs.{Every, gather, times}
+use Rattle.laws.specs.Result.{ok, refused}
 use Rattle.ration.specs.declared.Ration.the-variants as ration
 use Rattle.protocol.specs.Slot.{turnRoom}
 use Rattle.protocol.specs.Judge.{done, served, header-received}
 use Rattle.protocol.specs.Observed.{silent, sending}
 use Rattle.history.specs.Log.{Call, open-session, put, finish, Entry, log}
 use Rattle.history.specs.Account.{observed}
-use Rattle.history.specs.Claims.{ready, waitsOn, NothingReady}
+use Rattle.history.specs.Claims.{ready, waitsOn, dataWritten, lastServed, Serves, NothingReady}
 use Rattle.runs.proofs.Played.{played, client, zeros, queue, starts, receives, turns, taken, greets, refuses}
 use Rattle.history.proofs.Bounded.{bounded-waiting}
 
@@ -101,3 +103,47 @@ unfolding played
 nothing-left =
     bounded-waiting client (omega arith) queue (twice ++ (turns ∷ [])) .turns (log client queue twice) [] (refuses turns 9) (zeros turnRoom) refl refl
     .refused-9 .0 refl
+
+pub nothing-left-says : (ready client 5 (log client queue twice) ≡ false) × (turnRoom ≤ length (zeros turnRoom))
+unfolding played
+nothing-left-says = (nothing-left .none 5 (omega arith), nothing-left .may .roomy)
+
+-- ---- what is claimed of every log, of these turns
+
+-- while 5 waits, 2 gets one Data message at most, and there are no more than 127
+pub waits-claimed : (times 2 (gather (dataWritten client) (turned-2 ∷ [])) ≤ 1) × (length (gather (dataWritten client) (turned-2 ∷ [])) ≤ 127)
+unfolding played
+waits-claimed =
+    let w =
+    bounded-waiting client (omega arith) queue (asked ++ (turns ∷ [])) .waits (log client queue asked) (turned-2 ∷ []) [] refl 5 (omega arith) refl
+    (refl, tt) in
+    (w .each-once 2 (omega arith), w .at-most-127)
+
+-- the turn that is taken serves one number, with one Data message
+pub one-served : (k : ℕ) × (served 2 ≡ served k) × (dataWritten client turned-2 ≡ k ∷ []) × Serves client (log client queue asked) turned-2 k
+unfolding played
+one-served =
+    bounded-waiting client (omega arith) queue (asked ++ (turns ∷ [])) .turns (log client queue asked) [] turned-2 (zeros turnRoom) refl refl .served-one
+    (served 2) refl
+
+-- where 5 is ready, a turn is taken
+pub some-served : (k : ℕ) × (turned-2 .answer ≡ ok (served k))
+unfolding played
+some-served =
+    bounded-waiting client (omega arith) queue (asked ++ (turns ∷ [])) .turns (log client queue asked) [] turned-2 (zeros turnRoom) refl refl .served-some
+    (record { not-over = refl; up = refl; roomy = omega arith; whole-queue = refl }) 5 (omega arith) refl
+
+-- where nothing is ready, it is refused with 9
+pub refused-with-9 : NothingReady client (length queue) (log client queue twice) (length (zeros turnRoom)) → refuses turns 9 .answer ≡ refused 9
+unfolding played
+refused-with-9 =
+    bounded-waiting client (omega arith) queue (twice ++ (turns ∷ [])) .turns (log client queue twice) [] (refuses turns 9) (zeros turnRoom) refl refl
+    .refused-9 .1
+
+-- the number served is the first that is ready, and its message is the one that is due, with the first bytes that wait
+pub serves-5 : Serves client (log client queue (asked ++ (turns ∷ []))) turned-5 5
+    → (5 ≡ nearest (λ n. ready client n (log client queue (asked ++ (turns ∷ [])))) (lastServed client (log client queue (asked ++ (turns ∷ [])))))
+    × (ready client 5 (log client queue (asked ++ (turns ∷ []))) ≡ true)
+    × (turned-5 .wrote ≡ 0x94 ∷ 0x05 ∷ 0x00 ∷ 0x03 ∷ abc)
+unfolding played
+serves-5 v = (v .first-ready, v .is-ready, v .message)

@@ -1,7 +1,7 @@
 -- All 128 numbers are ready at once, and the last is served by the 128th turn and not before: from what opens and turns do in order.
-use mathlib.Core.Path.{_≡_, refl, sym, ap, _∙_}
-use mathlib.Core.Bool.{true, false}
-use mathlib.Core.List.{List, [], _∷_, _++_}
+use mathlib.Core.Path.{_≡_, refl, sym, ap, subst, _∙_}
+use mathlib.Core.Bool.{true, false, not}
+use mathlib.Core.List.{List, [], _∷_, _++_, append-nil}
 use Prim.Native.Nat.{ℕ, zero, suc, _+_, _≤_, _<_}
 use native.Mathlib.Omega.{arith}
 use lib.ListN.{length, replicate, getD-replicate}
@@ -32,7 +32,7 @@ use Rattle.protocol.specs.Observed.{isReady}
 use Rattle.protocol.proofs.Views.{look}
 use Rattle.history.specs.Log.{Call, turn, State, Entry, next, out, made, log}
 use Rattle.history.proofs.Decisions.{decide, nextBy, outBy, next-is, out-is}
-use Rattle.history.specs.Claims.{ready, dataNumber, dataWritten, waitsOn}
+use Rattle.history.specs.Claims.{ready, dataNumber, dataWritten, has, lapse, waitsOn}
 use Rattle.history.proofs.Good.{readyAt}
 use Rattle.history.proofs.InOrder.{written-is}
 use Rattle.history.proofs.Written.{numbered-read-back}
@@ -140,6 +140,16 @@ module _ (own : ℕ) (room : List ℕ) where
   waits-on-all i zero h = tt
   waits-on-all i (suc k) h = (waits-on i (omega arith), waits-on-all (suc i) k (omega arith))
 
+  -- no turn is a lapse
+  no-lapse : (i : ℕ) → i < 128 → not (lapse (client-of own) 127 (served-entry room i)) ≡ true
+  unfolding played
+  no-lapse i h = T-true _ (below (λ n. not (lapse (client-of own) 127 (served-entry room n))) 128 tt i h)
+
+  no-lapse-in : (i k : ℕ) → i + k ≤ 128 → Every (λ e. not (lapse (client-of own) 127 e)) (served-entries room i k)
+  unfolding Every
+  no-lapse-in i zero h = tt
+  no-lapse-in i (suc k) h = (no-lapse i (omega arith), no-lapse-in (suc i) k (omega arith))
+
 -- ---- 128 turns: of any header numbers, any queue of the right size and any room that is enough
 
 -- n is ready after a, waits all through b and is ready still; b has 127 Data messages, as many as a wait may have
@@ -181,3 +191,11 @@ module _ (own far : ℕ) (ho : own < 65_536) (hf : far < 65_536) (queue : List �
             (omega arith) h w .still-ready;
         all-others = ap length (served-numbers own room 0 127 (omega arith));
       }
+
+  -- as is claimed of every log, its own message is among 128
+  pub own-comes : has 127 (gather (dataWritten (client-of own)) (served-entries room 0 128)) ≡ true
+  own-comes =
+      bounded-waiting (client-of own) ho queue full .own-by-128 (opened-log own far) (served-entries room 0 128) []
+      (full-log ∙ ap (λ (l : List Entry). opened-log own far ++ l) (sym (append-nil (served-entries room 0 128)))) 127 (omega arith)
+      (all-ready own far ho hf queue 127 (omega arith)) (no-lapse-in own room 0 128 (omega arith))
+      (subst (λ (l : List ℕ). 128 ≤ length l) (sym (served-numbers own room 0 128 (omega arith))) (omega arith))

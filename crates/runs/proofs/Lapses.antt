@@ -8,7 +8,9 @@ use Rattle.wire.specs.declared.Message.the-variants as msg
 use Rattle.state.specs.declared.Setup.{Setup}
 use Rattle.protocol.specs.Judge.{done, message}
 use Rattle.history.specs.Log.{Call, open-session, put, abort, shutdown, lost, Entry, log}
+use Rattle.history.specs.Lapsed.{Lapsed}
 use Rattle.history.specs.Claims.{ready, lapse}
+use Rattle.history.proofs.LapsesOnly.{lapse-only}
 use Rattle.runs.proofs.Played.{played, client, server, zeros, queue, starts, receives, turns, taken, took}
 
 -- n is ready after the calls; the next call adds the entry to the log, and the entry is a lapse of n's wait
@@ -97,3 +99,10 @@ pub violated : Lapses server 5 accepted
     (record { call = receives (0x30 ∷ 0x05 ∷ 0x00 ∷ 0x00 ∷ []); answer = violation 23; used = 0; start = 0; end = 0; wrote = 0x08 ∷ 0x00 ∷ 0x00 ∷ 0x00 ∷ [] })
 unfolding played
 violated = record { is-ready = refl; adds = refl; is-lapse = refl }
+
+-- an entry is a lapse in the named ways, and in no other
+pub named-lapses : (s : Setup) (n : ℕ) (e : Entry) → Lapsed n e → lapse s n e ≡ true
+named-lapses s n e = lapse-only s n e .1
+
+pub no-other-lapse : (s : Setup) (n : ℕ) (e : Entry) → lapse s n e ≡ true → Lapsed n e
+no-other-lapse s n e = lapse-only s n e .0

@@ -8,5 +8,7 @@ pub mod Lapses
 pub mod Waiting
 pub mod Told
 pub mod Uses
+pub mod Applied
+pub mod Arriving
 pub mod Filling
 pub mod Full

@@ -140,6 +140,9 @@ pub only-over-whole : (before after : Connection) → OnlyOver before after
 only-over-whole before after e i =
     record { sessions = after .sessions; stage = e .stage i; over = e .over i; own = e .own i; last = e .last i; ping = e .ping i }
 
+pub only-over-sessions : (before after : Connection) → OnlyOver before after → (n : ℕ) → SameButOutcome (at after n) (at before n)
+only-over-sessions before after e = e .sessions
+
 pub counted-twice : times 5 (5 ∷ 6 ∷ 5 ∷ []) ≡ 2
 unfolding times pick
 counted-twice = refl
