@@ -10,11 +10,14 @@ Function = collections.namedtuple("Function", "name file lines clauses body cont
 
 
 def proof_places(file, owner, name):
-    """Where the proof of a function may be; that of a method is below its type, which may be declared in the root."""
+    """Where the proof of a function may be; that of a method is below its type, which may be declared in the root, and the folder of
+    one that calls itself has a + before its name."""
     module = file.removeprefix("src/").removesuffix(".rt")
-    below = f"{owner}/{name}" if owner else name
-    in_root = [f"proofs/{below}/Proof.antt"] if owner or module in ("lib", "main") else []
-    return (*in_root, f"proofs/{module}/{below}/Proof.antt")
+    type_folder = f"{owner}/" if owner else ""
+    modules = [""] if owner or module in ("lib", "main") else []
+    return tuple(
+        f"proofs/{folder}{type_folder}{mark}{name}/Proof.antt" for folder in (*modules, f"{module}/") for mark in ("", "+")
+    )
 
 
 def parts(lines, start, indent):
