@@ -1,5 +1,5 @@
--- The nearest number, step by step: the search over the numbers that are left; over all 128 it finds the nearest one.
-use mathlib.Core.Path.{_≡_, refl, sym}
+-- The nearest number, step by step: the search over the next numbers, going round; over all 128 it finds the nearest one.
+use mathlib.Core.Path.{_≡_, refl}
 use mathlib.Core.Bool.{Bool, true, false}
 use mathlib.Core.List.{List, [], _∷_}
 use Prim.Native.Nat.{ℕ, zero, suc, _≤_}
@@ -7,30 +7,17 @@ use native.Mathlib.Omega.{arith}
 use lib.ListN.{length, getD}
 use Rattle.laws.specs.Pick.{pick}
 use Rattle.laws.specs.Circle.{following, firstAfter, nearest}
-use Rattle.laws.proofs.Pick.{yes, no}
 use Rattle.laws.proofs.Circle.{nearest-same}
 use Rattle.call_search.specs.declared.Found.{Found}
 use Rattle.call_search.specs.declared.Found.the-variants as found
 use Rattle.call_search.specs.Flags.{nearestFound}
 
 -- what is found among the next k numbers after i
-pub searched : (ℕ → Bool) → ℕ → ℕ → Found
+unfoldable pub searched : (ℕ → Bool) → ℕ → ℕ → Found
 searched test i zero = found.Nothing
 searched test i (suc k) = pick (test (following i)) (found.At (following i)) (searched test (following i) k)
 
 module _ (test : ℕ → Bool) where
-  pub search-hit : (i k : ℕ) → test (following i) ≡ true → found.At (following i) ≡ searched test i (suc k)
-  unfolding searched
-  search-hit i k e = sym (yes _ _ _ e)
-
-  pub search-on : (i k : ℕ) → test (following i) ≡ false → searched test (following i) k ≡ searched test i (suc k)
-  unfolding searched
-  search-on i k e = sym (no _ _ _ e)
-
-  pub search-none : (i : ℕ) → found.Nothing ≡ searched test i 0
-  unfolding searched
-  search-none i = refl
-
   one : (i : ℕ) (b : Bool) → test (following i) ≡ b
       → searched test i 1 ≡ pick (test (firstAfter test i 1)) (found.At (firstAfter test i 1)) found.Nothing
   unfolding searched firstAfter pick

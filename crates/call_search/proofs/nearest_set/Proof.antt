@@ -1,61 +1,41 @@
--- `nearest_set` meets its contract. The loop's invariant: the search over the numbers that are left finds what the search over all finds.
-use mathlib.Core.Path.{_≡_, refl, sym, ap, _∙_}
-use Prim.Native.Nat.{ℕ, suc, _-_, _≤_}
+-- `nearest_set` meets its contract: what the first range names, or else the second one, is the nearest number.
+use mathlib.Core.Path.{sym, _∙_}
 use native.Mathlib.Omega.{arith}
 use borrow.Author.Needs.{needs}
 use denote.Ref.{now}
-use Rattle.laws.proofs.Pick.{via}
-use Rattle.laws.specs.Circle.{following}
-use Rattle.call_search.specs.declared.Found.the-variants as found
 use Rattle.call_search.specs.Flags.{isSet}
-use Rattle.call_search.proofs.Steps.{searched, search-hit, search-on, search-none, search-all}
+use Rattle.call_search.proofs.Halves.{or-at, or-nothing, following-lt, two-ranges}
 use Rattle.call_search.proofs.nearest_set.Statement.{statement}
 use Rattle.call_search.proofs.nearest_set.Tie as tie
 
-abbrev Inv-loop : tie.InvT-loop
-Inv-loop flags last before₀ left₀ before left = (left ≤ 128) × (searched (isSet flags) before left ≡ searched (isSet flags) last 128)
+sub-first-set : tie.Need-sub-first-set
+sub-first-set c = omega (arith, c .following .ensures, following-lt (c .before .before .args .last))
 
-abbrev μ-loop : tie.MeasureT-loop
-μ-loop flags last before₀ left₀ before left = left
+first-set-requires : tie.Need-first-set-requires
+first-set-requires c κs = omega (arith, c .following .ensures, following-lt (c .before .before .args .last))
 
-loop-holds : tie.Need-loop-holds Inv-loop μ-loop
-loop-holds c = (omega arith, refl)
+first-set-requires-2 : tie.Need-first-set-requires-2
+first-set-requires-2 c κs =
+    let first = c .before .before .before in
+    omega (arith, first .following .ensures, following-lt (first .before .before .args .last))
 
-returns : tie.Need-returns Inv-loop μ-loop
+returns : tie.Need-returns
 returns c =
-    let loop = c .before .before .before .before in
-    let a = loop .before .before .args in
-    let l = loop .loop in
-    let test = isSet (now (a .flags)) in
-    let more : suc (l .left - 1) ≡ l .left = omega (arith, c .before .before .before .loop-test .taken) in
-    let next = c .before .before .following .ensures in
-    ap found.At next ∙ search-hit test (l .before) (l .left - 1) (rw next at (via (c .before .is-set .ensures) (c .if1 .taken)))
-    ∙ ap (searched test (l .before)) more ∙ l .inv .1 ∙ search-all test (a .last)
+    let first = c .before .before .before in
+    let a = first .before .before .args in
+    let after = c .before .before .first-set .ensures in
+    after ∙ or-at _ _ _ (sym after ∙ c .enum-told .given .1)
+    ∙ two-ranges (isSet (now (a .flags))) (a .last) _ (sym (first .following .ensures))
 
-loop-again : tie.Need-loop-again Inv-loop μ-loop
-loop-again c =
-    let loop = c .before .before .before .before in
-    let a = loop .before .before .args in
-    let l = loop .loop in
-    let test = isSet (now (a .flags)) in
-    let more : suc (l .left - 1) ≡ l .left = omega (arith, c .before .before .before .loop-test .taken) in
-    let next = c .before .before .following .ensures in (
-      omega arith,
-      ap (λ (i : ℕ). searched test i (l .left - 1)) next
-          ∙ search-on test (l .before) (l .left - 1) (rw next at (via (c .before .is-set .ensures) (c .if1 .left)))
-          ∙ ap (searched test (l .before)) more ∙ l .inv .1,
-    )
-
-returns-2 : tie.Need-returns-2 Inv-loop μ-loop
+returns-2 : tie.Need-returns-2
 returns-2 c =
-    let a = c .before .before .before .args in
-    let l = c .before .loop in
-    let test = isSet (now (a .flags)) in
-    let none : l .left ≡ 0 = omega (arith, c .loop-test .left) in
-    search-none test (l .before) ∙ sym (ap (searched test (l .before)) none) ∙ l .inv .1 ∙ search-all test (a .last)
+    let first = c .before .before .before .before in
+    let a = first .before .before .args in
+    let after = c .before .before .before .first-set .ensures in
+    c .first-set2 .ensures ∙ or-nothing _ _ (sym after ∙ c .before .enum-told2 .given .1)
+    ∙ two-ranges (isSet (now (a .flags))) (a .last) _ (sym (first .following .ensures))
 
 pub nearest-set-spec : {M : Type 1} → statement M
 nearest-set-spec =
     tie.close
-    (tie.spec
-    Inv-loop μ-loop loop-holds (λ c κs. search needs) (λ c κs. search needs) returns (λ c. omega arith) (λ c. omega arith) loop-again returns-2)
+    (tie.spec (λ c κs. search needs) sub-first-set first-set-requires (λ c. search needs) (λ c. search needs) first-set-requires-2 returns returns-2)
