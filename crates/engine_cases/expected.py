@@ -329,3 +329,27 @@ line("outbound endless, client receive 1e05ffff: ok increment id 5 shift 7 incre
 line("server receive 9000010000000000..(261 bytes): ok data id 0 open length 256 used 260 payload 0000000000000000..(256 bytes), changed",
      "case 4: Data of 256")
 violation("server receive 9000010100000000..(261 bytes)", 26, "case 4: of 257 gives 26; open sets both rations, then spends its length")
+
+
+def ended(answer, fate, why):
+    line(f"client {answer}", "it ends the connection")
+    line(f"fate of 5: {fate}", why)
+
+
+ERROR = "receive 08000000: ok error length 0 used 4, over"
+BY_ERROR = {
+    "must not be retried": "must not be retried: Error",
+    "may be retried": "Error: every opening",
+    "complete": "Error: theirs is finished",
+}
+# One word for each pair of sides: idle; opening after idle, finished, ended; ours open, finished, ended, each with theirs open,
+# finished, ended.
+for fate in ["must not be retried"] + ["may be retried"] * 3 + ["must not be retried", "complete", "must not be retried"] * 3:
+    ended(ERROR, fate, BY_ERROR[fate])
+
+for _ in ("open", "finished"):
+    ended("lost: ok, over", "must not be retried", "a lost line: every running session that was sent")
+for _ in ("open", "finished"):
+    ended("receive 01000000: refused 20 wrote 08000000 then ee, over", "must not be retried", "a violation counts as a lost line")
+for _ in ("open", "finished"):
+    ended("receive 02000000: ok shutdown length 0 used 4, over", "may be retried", "may be retried: Shutdown")

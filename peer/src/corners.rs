@@ -86,6 +86,21 @@ impl<'a> Step<'a> {
     fn violation(&self) -> bool {
         matches!(self.answer, Err(number) if *number >= refusal::FIRST_VIOLATION)
     }
+
+    /// Tells whether an Error was taken.
+    fn error(&self) -> bool {
+        ends(self, |message| matches!(message, Message::Error { .. }))
+    }
+
+    /// Tells whether a Shutdown was taken.
+    fn shutdown(&self) -> bool {
+        ends(self, |message| matches!(message, Message::Shutdown { .. }))
+    }
+
+    /// Tells whether a running session's far side was finished before the call.
+    fn finished_by_far(&self) -> bool {
+        self.before.far_finished || self.before.both_finished
+    }
 }
 
 /// A corner: its name, and whether a step reaches it.
@@ -109,7 +124,7 @@ fn ends(step: &Step, taken: fn(&Message) -> bool) -> bool {
 }
 
 /// All corners.
-pub const CORNERS: [Corner; 30] = [
+pub const CORNERS: [Corner; 36] = [
     ("turn: the ration cuts what waits", |step| {
         matches!(step.answer, Ok(Report::Turn(_))) && step.is(|session| session.waiting > 0)
     }),
@@ -220,18 +235,34 @@ pub const CORNERS: [Corner; 30] = [
     ),
     (
         "Shutdown taken while a session runs and one is opening",
-        |step| {
-            ends(step, |message| matches!(message, Message::Shutdown { .. }))
-                && step.before.running
-                && step.before.opening
-        },
+        |step| step.shutdown() && step.before.running && step.before.opening,
     ),
     (
         "Error taken while a session runs and one is opening",
-        |step| {
-            ends(step, |message| matches!(message, Message::Error { .. }))
-                && step.before.running
-                && step.before.opening
-        },
+        |step| step.error() && step.before.running && step.before.opening,
+    ),
+    (
+        "Error taken while a running session's far side is finished",
+        |step| step.error() && step.finished_by_far(),
+    ),
+    (
+        "Error taken while a running session's far side is finished, ours open",
+        |step| step.error() && step.before.far_finished,
+    ),
+    (
+        "Error taken while a running session's far side is finished, and ours",
+        |step| step.error() && step.before.both_finished,
+    ),
+    (
+        "Shutdown taken while a running session's far side is finished",
+        |step| step.shutdown() && step.finished_by_far(),
+    ),
+    (
+        "violation while a running session's far side is finished",
+        |step| step.violation() && step.finished_by_far(),
+    ),
+    (
+        "lost line while a running session's far side is finished",
+        |step| matches!(step.call, Call::Lost) && step.ok() && step.finished_by_far(),
     ),
 ];

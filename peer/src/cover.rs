@@ -42,6 +42,10 @@ pub struct Before {
     pub running: bool,
     /// Whether a number is opening.
     pub opening: bool,
+    /// Whether a running session's far side is finished while ours is open.
+    pub far_finished: bool,
+    /// Whether both sides of a running session are finished.
+    pub both_finished: bool,
 }
 
 /// The counts.
@@ -125,6 +129,7 @@ impl Cover {
         let sessions = &player.engine.sessions;
         let running = |session: &Session| session.outcome == Outcome::Running;
         let opening = |session: &Session| session.ours == Ours::Opening;
+        let runs_as = |ours, theirs| move |s: &Session| running(s) && s.pair() == (ours, theirs);
         Before {
             id,
             place,
@@ -134,6 +139,10 @@ impl Cover {
             messages: pick::runs(&player.engine),
             running: sessions.iter().any(|s| running(s) && !opening(s)),
             opening: sessions.iter().any(opening),
+            far_finished: sessions.iter().any(runs_as(Ours::Open, Theirs::Finished)),
+            both_finished: sessions
+                .iter()
+                .any(runs_as(Ours::Finished, Theirs::Finished)),
         }
     }
 

@@ -4,7 +4,7 @@ mod receive;
 
 use crate::ration::Ration;
 use crate::refusal;
-use crate::session::{Ours, Outcome, Session, Starts, SLOT};
+use crate::session::{Ours, Outcome, Session, Starts, Theirs, SLOT};
 use crate::wire::{self, Data, Message, Role, HEADER_LENGTH, LARGEST_ID};
 
 /// The number of session numbers.
@@ -318,6 +318,16 @@ impl Engine {
         }
     }
 
+    /// Makes the connection over as an Error does: an answer that is all there counts as complete.
+    fn stopped_by_far(&mut self) {
+        for session in &mut self.sessions {
+            if session.theirs == Theirs::Finished {
+                session.settle(Outcome::Complete);
+            }
+        }
+        self.lose_line();
+    }
+
     /// Makes the connection over as a Shutdown does: all that runs may be retried.
     fn shut_by_far(&mut self) {
         self.over = true;
@@ -357,3 +367,6 @@ fn send_data(id: u8, session: &mut Session, starts: Starts, slot: &mut [u8], out
         session.finish = false;
     }
 }
+
+#[cfg(test)]
+mod tests;

@@ -1,7 +1,7 @@
 //! An independent second implementation of one end of the Jini ERI multiplexing protocol.
 //!
-//! It was written from three texts alone: the two that READINGS.md calls Scope and Published, and the script format
-//! (docs/SCRIPTS.md). Its points of doubt, and the readings taken, are in READINGS.md.
+//! It rests on four texts alone: those that READINGS.md calls Scope, Changes and Published, and the script
+//! format (docs/SCRIPTS.md). Its points of doubt, and the readings taken, are in READINGS.md.
 
 pub mod clock;
 pub mod compare;

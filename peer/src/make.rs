@@ -4,6 +4,7 @@
 //! and either plays a whole far end with delay on the line, or feeds single messages by chance.
 
 mod alone;
+mod end;
 mod joined;
 
 use crate::engine::{Phase, NUMBERS};
@@ -12,7 +13,6 @@ use crate::pick;
 use crate::play::{Player, Report};
 use crate::rng::Rng;
 use crate::script::{Call, First};
-use crate::session::Session;
 use crate::wire::{Message, Role};
 
 /// The calls of a script where the command names no number.
@@ -25,6 +25,10 @@ const LONG_GRANT_SEED: u64 = 78;
 /// One of this many seeds is about a first byte; 1,024 seeds in a row have all first bytes.
 const FIRST_BYTE_EVERY: u64 = 4;
 const FIRST_BYTE_SEED: u64 = 1;
+
+/// One of this many seeds aims to end while a running session's far side is finished.
+const ANSWERED_EVERY: u64 = 32;
+const ANSWERED_SEED: u64 = 19;
 
 /// What a script is about.
 #[derive(Clone, Copy, Debug, PartialEq, Eq)]
@@ -41,6 +45,8 @@ enum Plan {
     LongGrant,
     /// A short walk, then a message with this first byte.
     FirstByte(u8),
+    /// A walk of a client until the far side of a running session is finished, then an end.
+    Answered,
     /// Lines at the edge of the script language, and past it.
     Lines,
 }
@@ -84,6 +90,7 @@ pub fn make(seed: u64, calls: u64) -> Vec<u8> {
         Plan::Headers => maker.headers(),
         Plan::LongGrant => maker.long_grant(),
         Plan::FirstByte(first) => maker.first_byte(first),
+        Plan::Answered => maker.answered(),
         Plan::Lines => maker.odd_lines(),
     }
     maker.end();
@@ -105,6 +112,9 @@ fn choose_plan(rng: &mut Rng, seed: u64) -> Plan {
     }
     if seed % FIRST_BYTE_EVERY == FIRST_BYTE_SEED {
         return Plan::FirstByte((seed / FIRST_BYTE_EVERY % 256) as u8);
+    }
+    if seed % ANSWERED_EVERY == ANSWERED_SEED {
+        return Plan::Answered;
     }
     plan
 }
@@ -196,6 +206,13 @@ impl Maker {
         let mut line = Vec::new();
         self.first.write(&mut line);
         self.raw_line(&line);
+    }
+
+    /// Begins the script anew, with the first line as it is set.
+    fn begin_again(&mut self) {
+        self.text.clear();
+        self.near = Player::new(&self.first);
+        self.begin();
     }
 
     /// Adds a line as it is.
@@ -318,71 +335,6 @@ impl Maker {
         if self.rng.percent(80) {
             let shift = self.rng.one_of(&[0, 0, 0, 3, 7]);
             let _ = self.receive(vec![0x10 | (shift << 1), id, 0, 1]);
-        }
-    }
-}
-
-/// The end of every script.
-impl Maker {
-    /// Ends the connection in some way, tries calls after it, and looks at the whole state.
-    fn end(&mut self) {
-        if !self.near.engine.over {
-            self.leave_one_opening();
-            self.last_event();
-        }
-        for _ in 0..self.rng.below(5) {
-            let call = pick::wild_call(&mut self.rng, &self.pool, true);
-            let _ = self.say_only(&call);
-        }
-        Call::State.write(&mut self.text);
-        self.text.push(b'\n');
-        let id = if self.first.queue.is_some() {
-            self.rng.byte()
-        } else {
-            self.rng.one_of(&self.pool)
-        };
-        Call::Queue { id }.write(&mut self.text);
-        self.text.push(b'\n');
-        self.last_lines();
-    }
-
-    /// At times opens a number for which nothing will be sent.
-    fn leave_one_opening(&mut self) {
-        let engine = &self.near.engine;
-        let id = pick::id_where(&mut self.rng, engine, &self.pool, Session::may_open);
-        if let (Some(id), true) = (id, self.rng.percent(40)) {
-            let _ = self.say(&Call::Open { id });
-        }
-    }
-
-    /// Does one thing that may end the connection.
-    fn last_event(&mut self) {
-        let room = None;
-        match self.rng.below(7) {
-            0 => {
-                let _ = self.say(&Call::Lost);
-            }
-            1 => {
-                let _ = self.say(&Call::Shutdown { room });
-            }
-            2 => {}
-            3 => {
-                let bytes = noise::last_message(&mut self.rng);
-                let _ = self.receive(bytes);
-            }
-            _ => self.noise(),
-        }
-    }
-
-    /// At times adds a line that is a script error, or leaves out the last 0A.
-    fn last_lines(&mut self) {
-        if self.rng.percent(15) {
-            let line = noise::bad_line(&mut self.rng, &self.pool);
-            self.raw_line(&line);
-            self.raw_line(b"state");
-        }
-        if self.rng.percent(10) {
-            self.text.pop();
         }
     }
 }

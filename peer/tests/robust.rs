@@ -41,6 +41,22 @@ fn default_seeds_reach_everything() {
     assert_eq!(cover.impossible_pairs(), Vec::<String>::new());
 }
 
+/// Chance brings each end to sessions whose far side is finished, and not just once.
+#[test]
+fn ends_often_meet_finished_far_sides() {
+    let report = compare::cover(1..2001, USUAL_CALLS).report(false);
+    let corners = report
+        .lines()
+        .filter(|line| line.contains("running session"));
+    let mut count = 0;
+    for corner in corners {
+        let times = corner.split(' ').next_back().unwrap();
+        assert!(times.parse::<u64>().unwrap() >= 5, "{corner}");
+        count += 1;
+    }
+    assert_eq!(count, 6);
+}
+
 #[test]
 fn scripts_keep_to_their_number_of_calls() {
     for seed in 0..200 {

@@ -4,11 +4,13 @@ use mathlib.Core.Bool.{Bool, true, false}
 use mathlib.Core.List.{List}
 use Prim.Native.Nat.{ℕ}
 use lib.ListN.{take}
+use Rattle.laws.specs.Pick.{pick}
 use Rattle.ration.specs.declared.Ration.{Ration}
 use Rattle.wire.specs.declared.Role.{Role}
 use Rattle.wire.specs.declared.Role.the-variants as role
 use Rattle.state.specs.declared.Side.{Side}
 use Rattle.state.specs.declared.Side.the-variants as side
+use Rattle.state.specs.declared.Before.the-variants as before
 use Rattle.state.specs.declared.Sides.{Sides}
 use Rattle.state.specs.declared.Sides.the-variants as sides
 use Rattle.state.specs.declared.Outcome.{Outcome}
@@ -18,12 +20,12 @@ use Rattle.protocol.specs.Message.{SessionMessage, data-of, increment-of
 use Rattle.protocol.specs.Session.{follow, becomes, settled}
 use Rattle.protocol.specs.Receipt.{Taken, aborted, dataTo, incrementTo, abortTo, closeTo, arriving, other, receipt}
 use Rattle.protocol.specs.Ask.{openOf, openAsk, putAsk, finishAsk, grantAsk, abortOf, abortAsk, closeOf, closeAsk, turnOf, turnAsk}
-use Rattle.protocol.specs.Connection.{Cause, shutdown-received, error-received, own-shutdown, line-lost, unlessSent, ending}
+use Rattle.protocol.specs.Connection.{Cause, shutdown-received, error-received, own-shutdown, line-lost, unlessSent, unlessFinished, ending}
 use Rattle.protocol.specs.Observed.{Event, opens, aborts, received}
 use Rattle.protocol.specs.Asked.{isUnsent}
-use Rattle.protocol.specs.Fate.{fateOf, ifRunning, unlessUnsent, byPartial, fateAfter, Ended, by-shutdown, by-error, by-own-shutdown, by-lost-line, fateEnded}
+use Rattle.protocol.specs.Fate.{complete, fateOf, ifRunning, unlessUnsent, byPartial, fateAfter, Ended, by-shutdown, by-error, by-own-shutdown, by-lost-line, farFinished, fateEnded}
 use Rattle.protocol.proofs.Plans.{Takes}
-use Rattle.protocol.proofs.Views.{sendsOf, look}
+use Rattle.protocol.proofs.Views.{endsOf, sendsOf, look}
 
 becomes-is : (o n : Outcome) → fateOf (becomes o n) ≡ ifRunning (fateOf o) (fateOf n)
 becomes-is outcome.None n = refl
@@ -184,8 +186,19 @@ module _ (far : Ration) (x : Session) (s : List ℕ) where
   unsent-is (sides.Live side.Finished t) = refl
   unsent-is (sides.Live side.Ended t) = refl
 
+  finished-is : (z : Sides)
+      → fateOf (unlessFinished z) ≡ pick (farFinished (endsOf z)) complete (unlessUnsent (isUnsent (sendsOf far z (take (x .waiting) s) (x .outbound) (x .finish))))
+  unfolding pick
+  finished-is sides.Idle = refl
+  finished-is (sides.Opening before.Idle) = refl
+  finished-is (sides.Opening before.Finished) = refl
+  finished-is (sides.Opening before.Ended) = refl
+  finished-is (sides.Live o side.Open) = unsent-is (sides.Live o side.Open)
+  finished-is (sides.Live o side.Finished) = refl
+  finished-is (sides.Live o side.Ended) = unsent-is (sides.Live o side.Ended)
+
   pub ending-fate : (cause : Cause) → fateOf (ending cause x .outcome) ≡ fateEnded (look far x s) (endedBy cause) (fateOf (x .outcome))
   ending-fate shutdown-received = becomes-is (x .outcome) outcome.MayRetry
-  ending-fate error-received = becomes-is (x .outcome) (unlessSent (x .sides)) ∙ ap (ifRunning (fateOf (x .outcome))) (unsent-is (x .sides))
+  ending-fate error-received = becomes-is (x .outcome) (unlessFinished (x .sides)) ∙ ap (ifRunning (fateOf (x .outcome))) (finished-is (x .sides))
   ending-fate own-shutdown = refl
   ending-fate line-lost = becomes-is (x .outcome) (unlessSent (x .sides)) ∙ ap (ifRunning (fateOf (x .outcome))) (unsent-is (x .sides))

@@ -15,6 +15,7 @@ pub mod Exact
 pub mod Numbers
 pub mod Late
 pub mod Reports
+pub mod Endings
 pub mod Fates
 pub mod Legal
 pub mod Ledgers

@@ -9,6 +9,7 @@ use Rattle.ration.specs.Ration.{fromHeader, inRange}
 use Rattle.wire.specs.declared.Role.{Role}
 use Rattle.wire.specs.declared.Role.the-variants as role
 use Rattle.wire.specs.Message.{isClient, onlyIf}
+use Rattle.state.specs.declared.Side.the-variants as side
 use Rattle.state.specs.declared.Sides.{Sides}
 use Rattle.state.specs.declared.Sides.the-variants as sides
 use Rattle.state.specs.declared.Outcome.{Outcome}
@@ -92,16 +93,24 @@ wellFormed c = ltb (c .last) 128 && allFormed (roleOf (c .stage)) (exchanged (c 
 pub data Cause : Type 0 where
   shutdown-received error-received own-shutdown line-lost : Cause
 
--- Error or a lost line: a session that was sent must not be retried, an opening may be; in a run no idle number has a running outcome
+-- a lost line: a session that was sent must not be retried, an opening may be; in a run no idle number has a running outcome
 abbrev pub unlessSent : Sides → Outcome
 unlessSent sides.Idle = outcome.MustNotRetry
 unlessSent (sides.Opening b) = outcome.MayRetry
 unlessSent (sides.Live ours theirs) = outcome.MustNotRetry
 
+-- an Error received: a session whose far side is finished is complete, the others are as with a lost line
+abbrev pub unlessFinished : Sides → Outcome
+unlessFinished sides.Idle = unlessSent sides.Idle
+unlessFinished (sides.Opening b) = unlessSent (sides.Opening b)
+unlessFinished (sides.Live ours side.Open) = unlessSent (sides.Live ours side.Open)
+unlessFinished (sides.Live ours side.Finished) = outcome.Complete
+unlessFinished (sides.Live ours side.Ended) = unlessSent (sides.Live ours side.Ended)
+
 -- what becomes of a session that runs when the connection ends
 abbrev pub ending : Cause → Session → Session
 ending shutdown-received x = settled outcome.MayRetry x
-ending error-received x = settled (unlessSent (x .sides)) x
+ending error-received x = settled (unlessFinished (x .sides)) x
 ending own-shutdown x = x
 ending line-lost x = settled (unlessSent (x .sides)) x
 

@@ -1,9 +1,10 @@
 -- What becomes of a client's session, its fate (docs/PROTOCOL.md, "Outcomes"); told from calls, answers and messages.
 use mathlib.Core.Bool.{Bool, true, false}
+use Rattle.laws.specs.Pick.{pick}
 use Rattle.state.specs.declared.Outcome.{Outcome}
 use Rattle.state.specs.declared.Outcome.the-variants as outcome
 use Rattle.protocol.specs.Message.{data-of, increment-of, abort-of, close-of, acknowledgment-of}
-use Rattle.protocol.specs.Observed.{Event, opens, finishes, aborts, puts, received, wrote, Seen}
+use Rattle.protocol.specs.Observed.{Event, opens, finishes, aborts, puts, received, wrote, Ends, unused, ends, Seen, finished}
 use Rattle.protocol.specs.Asked.{isUnsent}
 
 pub data Fate : Type 0 where
@@ -59,10 +60,16 @@ fateAfter unsent f (wrote m) = f
 pub data Ended : Type 0 where
   not-ended by-shutdown by-error by-own-shutdown by-lost-line : Ended
 
--- a Shutdown received: may be retried; an Error received or a lost line: not if it was sent; our own shutdown changes nothing
+-- the far end has finished the session that the number last named, and has not terminated it
+abbrev pub farFinished : Ends → Bool
+farFinished unused = false
+farFinished (ends o t) = finished t
+
+-- a Shutdown received: may be retried; an Error received: complete if the far end has finished, otherwise as by a lost line;
+-- a lost line: not to be retried if it was sent; our own shutdown changes nothing
 abbrev pub fateEnded : Seen → Ended → Fate → Fate
 fateEnded v not-ended f = f
 fateEnded v by-shutdown f = ifRunning f may-be-retried
-fateEnded v by-error f = ifRunning f (unlessUnsent (isUnsent (v .sends)))
+fateEnded v by-error f = ifRunning f (pick (farFinished (v .standing)) complete (unlessUnsent (isUnsent (v .sends))))
 fateEnded v by-own-shutdown f = f
 fateEnded v by-lost-line f = ifRunning f (unlessUnsent (isUnsent (v .sends)))

@@ -46,17 +46,117 @@ pub own-abort-must-not : Becomes client (sent ++ (abort 5 false (zeros 4) ∷ []
 unfolding played
 own-abort-must-not = refl
 
-pub shutdown-may-be-retried : Becomes client (sent ++ (receives (0x02 ∷ 0x00 ∷ 0x00 ∷ 0x00 ∷ []) ∷ [])) outcome.MayRetry
+-- a close flag, or a Close after eof, completes
+pub close-flag-completes : Becomes client (sent ++ (receives (0x8C ∷ 0x05 ∷ 0x00 ∷ 0x00 ∷ []) ∷ [])) outcome.Complete
 unfolding played
-shutdown-may-be-retried = refl
+close-flag-completes = refl
 
-pub error-must-not : Becomes client (sent ++ (receives (0x08 ∷ 0x00 ∷ 0x00 ∷ 0x00 ∷ []) ∷ [])) outcome.MustNotRetry
+pub close-completes : Becomes client (sent ++ (receives (0x84 ∷ 0x05 ∷ 0x00 ∷ 0x00 ∷ []) ∷ receives (0x30 ∷ 0x05 ∷ 0x00 ∷ 0x00 ∷ []) ∷ [])) outcome.Complete
 unfolding played
-error-must-not = refl
+close-completes = refl
 
-pub lost-must-not : Becomes client (sent ++ (lost ∷ [])) outcome.MustNotRetry
+-- ---- fates at the end of the connection
+
+abbrev shutdown-received : List Call
+shutdown-received = receives (0x02 ∷ 0x00 ∷ 0x00 ∷ 0x00 ∷ []) ∷ []
+
+abbrev error-received : List Call
+error-received = receives (0x08 ∷ 0x00 ∷ 0x00 ∷ 0x00 ∷ []) ∷ []
+
+-- a message with a first byte that no message has
+abbrev violation-found : List Call
+violation-found = receives (0xFF ∷ 0x05 ∷ 0x00 ∷ 0x00 ∷ []) ∷ []
+
+-- an open of 5 that is not sent
+abbrev unsent : List Call
+unsent = starts ∷ receives (0x4A ∷ 0x6D ∷ 0x75 ∷ 0x78 ∷ 0x01 ∷ 0x00 ∷ 0x01 ∷ 0x00 ∷ []) ∷ open-session 5 ∷ []
+
+-- the server has announced its end
+abbrev far-finished : List Call
+far-finished = sent ++ (receives (0x84 ∷ 0x05 ∷ 0x00 ∷ 0x00 ∷ []) ∷ [])
+
+-- we have announced ours
+abbrev own-finished : List Call
+own-finished = sent ++ (finish 5 ∷ turns ∷ [])
+
+abbrev both-finished : List Call
+both-finished = own-finished ++ (receives (0x84 ∷ 0x05 ∷ 0x00 ∷ 0x00 ∷ []) ∷ [])
+
+-- the server has closed the session, and 5 is open again and unsent
+abbrev again : List Call
+again = own-finished ++ (receives (0x8C ∷ 0x05 ∷ 0x00 ∷ 0x00 ∷ []) ∷ open-session 5 ∷ [])
+
+-- the server's end crosses our Abort
+abbrev aborted : List Call
+aborted = sent ++ (abort 5 false (zeros 4) ∷ receives (0x84 ∷ 0x05 ∷ 0x00 ∷ 0x00 ∷ []) ∷ [])
+
+pub error-unsent : Becomes client (unsent ++ error-received) outcome.MayRetry
 unfolding played
-lost-must-not = refl
+error-unsent = refl
+
+pub error-sent : Becomes client (sent ++ error-received) outcome.MustNotRetry
+unfolding played
+error-sent = refl
+
+pub error-own-finished : Becomes client (own-finished ++ error-received) outcome.MustNotRetry
+unfolding played
+error-own-finished = refl
+
+pub error-far-finished : Becomes client (far-finished ++ error-received) outcome.Complete
+unfolding played
+error-far-finished = refl
+
+pub error-both-finished : Becomes client (both-finished ++ error-received) outcome.Complete
+unfolding played
+error-both-finished = refl
+
+pub error-again : Becomes client (again ++ error-received) outcome.MayRetry
+unfolding played
+error-again = refl
+
+pub error-aborted : Becomes client (aborted ++ error-received) outcome.MustNotRetry
+unfolding played
+error-aborted = refl
+
+pub lost-unsent : Becomes client (unsent ++ (lost ∷ [])) outcome.MayRetry
+unfolding played
+lost-unsent = refl
+
+pub lost-sent : Becomes client (sent ++ (lost ∷ [])) outcome.MustNotRetry
+unfolding played
+lost-sent = refl
+
+pub lost-far-finished : Becomes client (far-finished ++ (lost ∷ [])) outcome.MustNotRetry
+unfolding played
+lost-far-finished = refl
+
+pub lost-both-finished : Becomes client (both-finished ++ (lost ∷ [])) outcome.MustNotRetry
+unfolding played
+lost-both-finished = refl
+
+pub violation-unsent : Becomes client (unsent ++ violation-found) outcome.MayRetry
+unfolding played
+violation-unsent = refl
+
+pub violation-far-finished : Becomes client (far-finished ++ violation-found) outcome.MustNotRetry
+unfolding played
+violation-far-finished = refl
+
+pub shutdown-unsent : Becomes client (unsent ++ shutdown-received) outcome.MayRetry
+unfolding played
+shutdown-unsent = refl
+
+pub shutdown-sent : Becomes client (sent ++ shutdown-received) outcome.MayRetry
+unfolding played
+shutdown-sent = refl
+
+pub shutdown-far-finished : Becomes client (far-finished ++ shutdown-received) outcome.MayRetry
+unfolding played
+shutdown-far-finished = refl
+
+pub shutdown-both-finished : Becomes client (both-finished ++ shutdown-received) outcome.MayRetry
+unfolding played
+shutdown-both-finished = refl
 
 -- ---- pings
 

@@ -202,7 +202,7 @@ impl Cover {
         )?;
         writeln!(text, "\nCorners")?;
         for ((name, _), times) in CORNERS.iter().zip(&self.corners) {
-            writeln!(text, "  {name:<54} {times}")?;
+            writeln!(text, "  {name:<69} {times}")?;
         }
         if full {
             self.write_grid(text)?;

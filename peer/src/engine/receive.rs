@@ -86,7 +86,7 @@ impl Engine {
                 self.ping = None;
             }
             Message::Shutdown { .. } => self.shut_by_far(),
-            Message::Error { .. } => self.lose_line(),
+            Message::Error { .. } => self.stopped_by_far(),
             _ => {}
         }
         Ok(())

@@ -3,7 +3,6 @@
 use super::{choose_header, Maker};
 use crate::noise;
 use crate::pick::{self, Mood};
-use crate::play::Player;
 use crate::ration::Ration;
 use crate::script::{self, Call};
 use crate::wire::{write_header, Role};
@@ -11,7 +10,7 @@ use crate::wire::{write_header, Role};
 /// The plans with the near end alone.
 impl Maker {
     /// Exchanges the headers at once.
-    fn connect(&mut self) {
+    pub(super) fn connect(&mut self) {
         if self.first.role == Role::Client {
             let _ = self.say(&Call::Start { room: None });
         }
@@ -31,7 +30,7 @@ impl Maker {
     }
 
     /// Makes a call or feeds a message.
-    fn walk_step(&mut self) {
+    pub(super) fn walk_step(&mut self) {
         if self.noise_due() {
             return self.noise();
         }
@@ -149,9 +148,7 @@ impl Maker {
     /// Grants one number all that its inbound ration can hold, then one more.
     pub(super) fn long_grant(&mut self) {
         self.first.header = 65_535;
-        self.text.clear();
-        self.near = Player::new(&self.first);
-        self.begin();
+        self.begin_again();
         self.connect();
         let id = self.rng.one_of(&self.pool);
         self.open_for_grants(id);

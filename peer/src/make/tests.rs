@@ -1,7 +1,7 @@
 use super::*;
 use crate::far::Far;
 use crate::pick::Mood;
-use crate::session::Outcome;
+use crate::session::{Outcome, Session};
 
 #[test]
 fn the_same_seed_gives_the_same_script() {
