@@ -1,6 +1,9 @@
--- What each end of a connection makes of a session, in outcomes alone, for every pair of sides: from the rules.
+-- What ends a connection, and what each end makes of a session, in outcomes alone, for every pair of sides: from the rules.
 use mathlib.Core.Path.{_≡_, refl}
+use mathlib.Core.Bool.{false}
+use mathlib.Core.List.{[]}
 use Prim.Native.Nat.{ℕ}
+use Rattle.wire.specs.declared.Message.the-variants as msg
 use Rattle.state.specs.declared.Side.{Side}
 use Rattle.state.specs.declared.Side.the-variants as side
 use Rattle.state.specs.declared.Before.{Before}
@@ -12,7 +15,9 @@ use Rattle.state.specs.declared.Session.{Session}
 use Rattle.state.specs.declared.Connection.{Connection}
 use Rattle.state.specs.With.{withSides, withOutcome}
 use Rattle.protocol.specs.Connection.{Cause, shutdown-received, error-received, own-shutdown, line-lost, ending}
-use Rattle.protocol.specs.Judge.{Decision, refuse, violate, accept, breach}
+use Rattle.protocol.specs.Plan.{take, settle}
+use Rattle.protocol.specs.Judge.{done, message, ends-by, errorAfter, violate, accept, breach, judge}
+use Rattle.protocol.specs.Call.{running, lostRule}
 
 -- a session with these sides and the first outcome has the second one afterwards, whatever else it holds
 abbrev Leaves : Cause → Sides → Outcome → Outcome → Type 0
@@ -20,29 +25,15 @@ Leaves cause z before after = (x : Session) → ending cause (withOutcome before
 
 -- ---- an outcome that does not run stays
 
-pub none-stays : (cause : Cause) (z : Sides) → Leaves cause z outcome.None outcome.None
-none-stays shutdown-received z x = refl
-none-stays error-received z x = refl
-none-stays own-shutdown z x = refl
-none-stays line-lost z x = refl
+abbrev Stays : Cause → Sides → Outcome → Type 0
+Stays cause z o = Leaves cause z o o
 
-pub complete-stays : (cause : Cause) (z : Sides) → Leaves cause z outcome.Complete outcome.Complete
-complete-stays shutdown-received z x = refl
-complete-stays error-received z x = refl
-complete-stays own-shutdown z x = refl
-complete-stays line-lost z x = refl
-
-pub may-retry-stays : (cause : Cause) (z : Sides) → Leaves cause z outcome.MayRetry outcome.MayRetry
-may-retry-stays shutdown-received z x = refl
-may-retry-stays error-received z x = refl
-may-retry-stays own-shutdown z x = refl
-may-retry-stays line-lost z x = refl
-
-pub must-not-retry-stays : (cause : Cause) (z : Sides) → Leaves cause z outcome.MustNotRetry outcome.MustNotRetry
-must-not-retry-stays shutdown-received z x = refl
-must-not-retry-stays error-received z x = refl
-must-not-retry-stays own-shutdown z x = refl
-must-not-retry-stays line-lost z x = refl
+pub others-stay : (cause : Cause) (z : Sides)
+    → Stays cause z outcome.None × Stays cause z outcome.Complete × Stays cause z outcome.MayRetry × Stays cause z outcome.MustNotRetry
+others-stay shutdown-received z = (λ _. refl, λ _. refl, λ _. refl, λ _. refl)
+others-stay error-received z = (λ _. refl, λ _. refl, λ _. refl, λ _. refl)
+others-stay own-shutdown z = (λ _. refl, λ _. refl, λ _. refl, λ _. refl)
+others-stay line-lost z = (λ _. refl, λ _. refl, λ _. refl, λ _. refl)
 
 -- ---- an outcome that runs
 
@@ -51,10 +42,6 @@ error-finished o x = refl
 
 pub error-open : (o : Side) → Leaves error-received (sides.Live o side.Open) outcome.Running outcome.MustNotRetry
 error-open o x = refl
-
--- in no history
-pub error-ended : (o : Side) → Leaves error-received (sides.Live o side.Ended) outcome.Running outcome.MustNotRetry
-error-ended o x = refl
 
 pub error-opening : (b : Before) → Leaves error-received (sides.Opening b) outcome.Running outcome.MayRetry
 error-opening b x = refl
@@ -71,12 +58,32 @@ shutdown-any z x = refl
 pub own-shutdown-leaves : (x : Session) → ending own-shutdown x ≡ x
 own-shutdown-leaves x = refl
 
--- ---- a violation, whatever its number, is a lost line
+-- in no history does a number run that is idle or whose far side is ended: it counts as sent
+pub error-ended : (o : Side) → Leaves error-received (sides.Live o side.Ended) outcome.Running outcome.MustNotRetry
+error-ended o x = refl
 
-abbrev Loses : Decision → Type 0
-Loses (refuse n) = Unit {0}
-Loses (violate b) = b .cause ≡ line-lost
-Loses (accept e) = Unit {0}
+pub error-idle : Leaves error-received sides.Idle outcome.Running outcome.MustNotRetry
+error-idle x = refl
 
-pub violation-is-lost : (c : Connection) (n : ℕ) → Loses (breach c n)
-violation-is-lost c n = refl
+pub lost-idle : Leaves line-lost sides.Idle outcome.Running outcome.MustNotRetry
+lost-idle x = refl
+
+-- ---- which end it is: of every connection, a message of any length, a violation of any number
+
+pub error-ends : (c : Connection) (length : ℕ)
+    → judge c (msg.Error length) ≡ accept (ends-by c error-received (message (msg.Error length) false) [])
+unfolding judge settle
+error-ends c length = refl
+
+pub shutdown-ends : (c : Connection) (length : ℕ)
+    → judge c (msg.Shutdown length) ≡ accept (ends-by c shutdown-received (message (msg.Shutdown length) false) [])
+unfolding judge settle
+shutdown-ends c length = refl
+
+pub violation-ends : (c : Connection) (n : ℕ)
+    → breach c n ≡ violate (record { code = n; cause = line-lost; reply = errorAfter (c .stage) (c .own) })
+violation-ends c n = refl
+
+pub lost-ends : (c : Connection) → lostRule c ≡ running c (take (ends-by c line-lost done []))
+unfolding lostRule
+lost-ends c = refl
