@@ -2,6 +2,11 @@
 """Prints what engine_cases must write: each answer is made by hand from the rule of docs/PROTOCOL.md that is beside it in short.
 python3 expected.py > stdout"""
 
+# A slot, the room that a turn needs, and the queue.
+SLOT = 256
+TURN = 4 + SLOT
+QUEUE = 128 * SLOT
+
 CALLS = "start open put finish turn grant abort close ping shutdown lost receive".split()
 
 
@@ -42,13 +47,14 @@ both("rations 2147483647", "5 5 ok ok 9 7 ok 4 ok 4 ok ok", "4 4 ok ok 9 7 ok 5 
      "0 to 2,147,483,647; 7: sum above 2,147,483,647")
 both("rations endless", "5 5 ok ok 9 7 ok 4 ok 4 ok ok", "4 4 ok ok 9 7 ok 5 ok ok ok ok", "or endless; 7: endless")
 
-WAITING = "waiting at most 256 and 0 unless our side is opening or open"
-both("open, 257 waiting", ALL_14, ALL_14, WAITING)
+FULL = f"6: more than {SLOT} minus waiting"
+WAITING = f"waiting at most {SLOT} and 0 unless our side is opening or open"
+both("open, a slot and 1 waiting", ALL_14, ALL_14, WAITING)
 both("idle, 1 waiting", ALL_14, ALL_14, WAITING)
 both("finished, 1 waiting", ALL_14, ALL_14, WAITING)
 both("ended, 1 waiting", ALL_14, ALL_14, WAITING)
-both("open, 256 waiting", "5 5 6 ok ok ok ok 4 ok 4 ok ok", "4 4 6 ok ok ok ok 5 ok ok ok ok",
-     "at most 256; 6: more than 256 minus waiting")
+both("open, a slot waiting", "5 5 6 ok ok ok ok 4 ok 4 ok ok", "4 4 6 ok ok ok ok 5 ok ok ok ok",
+     f"at most {SLOT}; {FULL}")
 
 FINISH = "finish asked only there"
 both("idle, finish asked", ALL_14, ALL_14, FINISH)
@@ -61,8 +67,8 @@ OPENING = "no opening at a server; ready: opening; grant needs our side open or 
 both("opening", "5 5 ok ok ok 5 ok 4 ok 4 ok ok", ALL_14, OPENING)
 both("opening after finished", "5 5 ok ok ok 5 ok 4 ok 4 ok ok", ALL_14, OPENING)
 both("opening after ended", "5 5 ok ok ok 5 ok 4 ok 4 ok ok", ALL_14, OPENING)
-both("opening, 257 waiting", ALL_14, ALL_14, WAITING)
-both("opening, 256 waiting", "5 5 6 ok ok 5 ok 4 ok 4 ok ok", ALL_14, "6: more than 256 minus waiting")
+both("opening, a slot and 1 waiting", ALL_14, ALL_14, WAITING)
+both("opening, a slot waiting", "5 5 6 ok ok 5 ok 4 ok 4 ok ok", ALL_14, FULL)
 both("opening, finish asked", "5 5 5 5 ok 5 ok 4 ok 4 ok ok", ALL_14, "finish asked only there: opening or open")
 
 LAST = "last served at most 127"
@@ -108,9 +114,9 @@ both("ended open", "5 5 5 5 9 5 5 4 ok 4 ok ok", "4 4 5 5 9 5 5 5 ok ok ok ok", 
 both("ended finished", "5 5 5 5 9 5 5 4 ok 4 ok ok", "4 4 5 5 9 5 5 5 ok ok ok ok", "open: far side is ended")
 both("ended ended", "5 ok 5 5 9 5 5 4 ok 4 ok ok", "4 4 5 5 9 5 5 5 ok ok ok ok", "open: far side is ended, own side ended")
 
-both("252 waiting", "5 5 ok ok ok ok ok 4 ok 4 ok ok", "4 4 ok ok ok ok ok 5 ok ok ok ok", "252 + 4 is 256")
-both("253 waiting", "5 5 6 ok ok ok ok 4 ok 4 ok ok", "4 4 6 ok ok ok ok 5 ok ok ok ok", "6: more than 256 minus waiting")
-both("253 waiting, finish asked", "5 5 5 5 ok ok ok 4 ok 4 ok ok", "4 4 5 5 ok ok ok 5 ok ok ok ok", "5 before 6")
+both("4 bytes free", "5 5 ok ok ok ok ok 4 ok 4 ok ok", "4 4 ok ok ok ok ok 5 ok ok ok ok", f"4 more make {SLOT}")
+both("3 bytes free", "5 5 6 ok ok ok ok 4 ok 4 ok ok", "4 4 6 ok ok ok ok 5 ok ok ok ok", FULL)
+both("3 bytes free, finish asked", "5 5 5 5 ok ok ok 4 ok 4 ok ok", "4 4 5 5 ok ok ok 5 ok ok ok ok", "5 before 6")
 both("no ration, 1 waiting", "5 5 ok ok 9 ok ok 4 ok 4 ok ok", "4 4 ok ok 9 ok ok 5 ok ok ok ok",
      "ready: open with bytes waiting and ration above 0")
 both("no ration, 1 waiting, finish asked", "5 5 5 5 9 ok ok 4 ok 4 ok ok", "4 4 5 5 9 ok ok 5 ok ok ok ok",
@@ -122,7 +128,7 @@ both("inbound endless", "5 5 ok ok 9 7 ok 4 ok 4 ok ok", "4 4 ok ok 9 7 ok 5 ok 
 both("inbound 2147483646", "5 5 ok ok 9 ok ok 4 ok 4 ok ok", "4 4 ok ok 9 ok ok 5 ok ok ok ok", "the sum is 2,147,483,647")
 
 # One byte waits for number 5, both sides open.
-NONE = "8: room below 12 (receive), 260 (turn), 8 (start), 4 (others that write); 8 before 4 and 5"
+NONE = f"8: room below 12 (receive), {TURN} (turn), 8 (start), 4 (others that write); 8 before 4 and 5"
 both("room 0", "8 5 ok ok 8 8 8 8 8 8 ok 8", "8 4 ok ok 8 8 8 8 8 8 ok 8", NONE)
 both("room 3", "8 5 ok ok 8 8 8 8 8 8 ok 8", "8 4 ok ok 8 8 8 8 8 8 ok 8", NONE)
 both("room 4", "8 5 ok ok 8 ok ok 4 ok 4 ok 8", "8 4 ok ok 8 ok ok 5 ok ok ok 8", "4 (others that write)")
@@ -130,13 +136,13 @@ both("room 7", "8 5 ok ok 8 ok ok 4 ok 4 ok 8", "8 4 ok ok 8 ok ok 5 ok ok ok 8"
 both("room 8", "5 5 ok ok 8 ok ok 4 ok 4 ok 8", "4 4 ok ok 8 ok ok 5 ok ok ok 8", "8 (start)")
 both("room 11", "5 5 ok ok 8 ok ok 4 ok 4 ok 8", "4 4 ok ok 8 ok ok 5 ok ok ok 8", "below 12 (receive)")
 both("room 12", "5 5 ok ok 8 ok ok 4 ok 4 ok ok", "4 4 ok ok 8 ok ok 5 ok ok ok ok", "12 (receive)")
-both("room 259", "5 5 ok ok 8 ok ok 4 ok 4 ok ok", "4 4 ok ok 8 ok ok 5 ok ok ok ok", "below 260 (turn)")
-both("room 260", "5 5 ok ok ok ok ok 4 ok 4 ok ok", "4 4 ok ok ok ok ok 5 ok ok ok ok", "260 (turn)")
+both("room a byte short for a turn", "5 5 ok ok 8 ok ok 4 ok 4 ok ok", "4 4 ok ok 8 ok ok 5 ok ok ok ok", f"below {TURN} (turn)")
+both("room for a turn", "5 5 ok ok ok ok ok 4 ok 4 ok ok", "4 4 ok ok ok ok ok 5 ok ok ok ok", f"{TURN} (turn)")
 
-QUEUE = "8: queue not 32,768; only put and turn touch the queue"
-both("queue 0", "5 5 8 ok 8 ok ok 4 ok 4 ok ok", "4 4 8 ok 8 ok ok 5 ok ok ok ok", QUEUE)
-both("queue 32767", "5 5 8 ok 8 ok ok 4 ok 4 ok ok", "4 4 8 ok 8 ok ok 5 ok ok ok ok", QUEUE)
-both("queue 32769", "5 5 8 ok 8 ok ok 4 ok 4 ok ok", "4 4 8 ok 8 ok ok 5 ok ok ok ok", QUEUE)
+OTHER = f"8: queue not {QUEUE:,}; only put and turn touch the queue"
+both("queue 0", "5 5 8 ok 8 ok ok 4 ok 4 ok ok", "4 4 8 ok 8 ok ok 5 ok ok ok ok", OTHER)
+both("queue a byte short", "5 5 8 ok 8 ok ok 4 ok 4 ok ok", "4 4 8 ok 8 ok ok 5 ok ok ok ok", OTHER)
+both("queue a byte long", "5 5 8 ok 8 ok ok 4 ok 4 ok ok", "4 4 8 ok 8 ok ok 5 ok ok ok ok", OTHER)
 
 both("number 127", "5 ok 5 5 ok 5 5 4 ok 4 ok ok", "4 4 5 5 ok 5 5 5 ok ok ok ok", "127 is a number, and idle")
 both("number 128", "5 3 3 3 ok 3 3 3 ok 4 ok ok", "4 3 3 3 ok 3 3 3 ok ok ok ok", "3: number above 127; 3 before 4")
@@ -214,11 +220,11 @@ line("server abort 5 partial: ok wrote 22050000 then ee, changed", "bit 1 is par
 line("server shutdown: ok wrote 02000000 then ee, over", "02 Shutdown; our own shutdown ends it too")
 line("server shutdown: refused 2, same", "2: connection over")
 
-line("client put 5 6161616161616161..(257 bytes): refused 6, same", "6: more than 256 minus waiting")
-line("client put 5 6161616161616161..(256 bytes): ok, changed, queue changed", "256 for each number")
-line("client put 5: ok, same", "0 is not more than 256 minus 256")
-line("client put 5 7a: refused 6, same", "6: more than 256 minus waiting")
-line("client turn: ok id 5 wrote 8005010061616161..(260 bytes) then ee, changed, queue changed", "4 plus 256")
+line(f"client put 5 6161616161616161..({SLOT + 1} bytes): refused 6, same", FULL)
+line(f"client put 5 6161616161616161..({SLOT} bytes): ok, changed, queue changed", f"{SLOT} for each number")
+line("client put 5: ok, same", f"0 is not more than {SLOT} minus {SLOT}")
+line("client put 5 7a: refused 6, same", FULL)
+line(f"client turn: ok id 5 wrote 8005{SLOT:04x}61616161..({TURN} bytes) then ee, changed, queue changed", f"4 plus {SLOT}")
 line("slot 5: dd00000000 .. 00dd", "turn zeroes the rest of the slot it serves")
 line("server put 5 616263: ok, changed, queue changed", "put needs our side open")
 line("server finish 5: ok, changed", "finish needs our side open")

@@ -5,15 +5,18 @@ use engine::Before;
 use engine::Connection;
 use engine::Outcome;
 use engine::Ping;
+use engine::QUEUE_SIZE;
 use engine::Ration;
 use engine::Role;
+use engine::SLOT_SIZE;
 use engine::Session;
 use engine::Side;
 use engine::Sides;
 use engine::Stage;
 
-// The numbers of the letters 1 to 9 and a to f, then those of the marks - o p l w m, then those of the capital letters.
-const NUMBERS: [u32; 41] = [
+// The numbers of the letters 1 to 9 and a to f, then those of the marks - o p l w m, then those of the capital letters that are no
+// size.
+const NUMBERS: [u32; 32] = [
     1,
     2,
     3,
@@ -44,16 +47,7 @@ const NUMBERS: [u32; 41] = [
     2147483648,
     4294967295,
     127,
-    252,
-    253,
-    256,
-    257,
     200,
-    259,
-    260,
-    32767,
-    32768,
-    32769,
     261,
 ];
 
@@ -65,13 +59,31 @@ pub(crate) fn letter(s: &[u8], i: usize) -> u8 {
     b' '
 }
 
+// The size that a letter represents, of a slot, the room of a turn or the queue, or 0 if it represents none.
+fn size_of(b: u8) -> u32 {
+    let slot = SLOT_SIZE as u32;
+    let queue = QUEUE_SIZE as u32;
+    match b {
+        b'P' => slot - 4,
+        b'Q' => slot - 3,
+        b'R' => slot,
+        b'S' => slot + 1,
+        b'I' => slot + 3,
+        b'J' => slot + 4,
+        b'A' => queue - 1,
+        b'B' => queue,
+        b'C' => queue + 1,
+        _ => 0,
+    }
+}
+
 // The number that a letter represents, or 0 if it represents none.
 pub(crate) fn number_of(b: u8) -> u32 {
-    let i = find(b"123456789abcdef-oplwmKFGHYMXZTPQRSNIJABCD", 0, b);
-    if i < 41 {
+    let i = find(b"123456789abcdef-oplwmKFGHYMXZTND", 0, b);
+    if i < 32 {
         return NUMBERS[i];
     }
-    0
+    size_of(b)
 }
 
 // The number of the letter at a place, which is less than 256.

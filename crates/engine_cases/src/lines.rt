@@ -12,21 +12,26 @@ use connection::session_at;
 use engine::Answer;
 use engine::Called;
 use engine::Connection;
+use engine::QUEUE_SIZE;
+use engine::SLOT_SIZE;
 use engine_marks::is_filled;
 use text_line::Line;
 use text_line::first;
 use text_state::answered;
 
+// The room of each call: 12 bytes more than a turn needs.
+const ROOM_SIZE: usize = 16 + (SLOT_SIZE as usize);
+
 // One end with its queue, from call to call.
 pub(crate) struct Bench {
     pub(crate) connection: Connection,
-    pub(crate) queue: [u8; 32768],
+    pub(crate) queue: [u8; QUEUE_SIZE],
 }
 
 pub(crate) fn on_bench(connection: Connection) -> Bench {
     Bench {
         connection,
-        queue: [0xDDu8; 32768],
+        queue: [0xDDu8; QUEUE_SIZE],
     }
 }
 
@@ -108,11 +113,11 @@ fn question(c: Connection, asked: Call, bytes: &[u8]) {
     }
 }
 
-// Makes one call with 272 bytes of room, and with the bytes of a put or a receive.
+// Makes one call, with the bytes of a put or a receive.
 pub(crate) fn line(b: Bench, asked: Call, bytes: &[u8]) -> Bench {
     let c = b.connection;
     let mut queue = b.queue;
-    let mut room = [0xEEu8; 272];
+    let mut room = [0xEEu8; ROOM_SIZE];
     question(c, asked, bytes);
     let called = call::ask(c, asked, bytes, &mut queue, &mut room);
     outcome(called, bytes, &room);
@@ -125,10 +130,12 @@ pub(crate) fn line(b: Bench, asked: Call, bytes: &[u8]) -> Bench {
 // Prints the first bytes of slot 5 with the one before them, and its last byte with the one behind it.
 pub(crate) fn slot_5(b: Bench) {
     let queue = b.queue;
+    let start = 5 * (SLOT_SIZE as usize);
+    let end = start + (SLOT_SIZE as usize);
     say(show::SLOT_5);
-    show::part(&queue, 1279, 1284);
+    show::part(&queue, start - 1, start + 4);
     say(show::DOTS);
-    show::part(&queue, 1535, 1537);
+    show::part(&queue, end - 1, end + 1);
     say(show::LINE_END);
 }
 

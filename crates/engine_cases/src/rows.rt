@@ -12,8 +12,15 @@ use crate::show::item;
 use crate::show::say;
 use engine::Answer;
 use engine::Connection;
+use engine::QUEUE_SIZE;
 use engine::Role;
+use engine::SLOT_SIZE;
 use engine_marks::is_filled;
+
+// The longest queue and the longest room that a row lends.
+const LONGEST_QUEUE: usize = QUEUE_SIZE + 1;
+
+const LONGEST_ROOM: usize = 4 + (SLOT_SIZE as usize);
 
 // The session number that the calls name, and how many bytes of room and queue are lent: a letter each.
 struct Lent {
@@ -57,8 +64,8 @@ fn tell(asked: Call, refusal: u8) {
 
 // Makes a call on buffers of its own, and returns whether a refusal left the state and each byte as they were.
 fn attempt(c: Connection, asked: Call, lent: Lent) -> bool {
-    let mut queue = [0xDDu8; 32769];
-    let mut room = [0xEEu8; 260];
+    let mut queue = [0xDDu8; LONGEST_QUEUE];
+    let mut room = [0xEEu8; LONGEST_ROOM];
     let called = call::ask(
         c,
         asked,

@@ -15,10 +15,14 @@ use crate::show::find;
 use crate::show::rest;
 use engine::Connection;
 use engine::Role;
+use engine::SLOT_SIZE;
+
+// The most bytes that a line names: a byte more than a message with a full slot.
+const MOST_BYTES: usize = 5 + (SLOT_SIZE as usize);
 
 // The first 16 bytes that hexadecimal digits name; the bytes behind them repeat the 16th.
-fn bytes_of(s: &[u8]) -> [u8; 261] {
-    let mut bytes = [(small(s, 30) << 4) | small(s, 31); 261];
+fn bytes_of(s: &[u8]) -> [u8; MOST_BYTES] {
+    let mut bytes = [(small(s, 30) << 4) | small(s, 31); MOST_BYTES];
     let mut i: usize = 0;
     while i < 16 {
         bytes[i] = (small(s, 2 * i) << 4) | small(s, 2 * i + 1);
