@@ -117,34 +117,36 @@ servable-has queue n waiting e =
     }
 
 module _ (n : ℕ) (q : List ℕ) where
-  a-slot : n * slotSize + slotSize - n * slotSize ≡ slotSize
-  a-slot = omega arith
+  module _ {start : ℕ} (begins : start ≡ n * slotSize) where
+    same-size : start + slotSize - start ≡ slotSize
+    same-size = omega arith
 
-  pub slot-part : take (n * slotSize + slotSize - n * slotSize) (drop (n * slotSize) q) ≡ slot n q
-  slot-part = ap (λ (k : ℕ). take k (drop (n * slotSize) q)) a-slot
+    pub slot-part : take (start + slotSize - start) (drop start q) ≡ slot n q
+    slot-part = ap (λ (k : ℕ). take k (drop start q)) same-size ∙ ap (λ (k : ℕ). take slotSize (drop k q)) begins
 
-  slot-back : (s : List ℕ) → putMid (n * slotSize) (n * slotSize + slotSize - n * slotSize) q s ≡ withSlot n s q
-  slot-back s =
-      ap (λ (r : List ℕ). take (n * slotSize) q ++ (s ++ r)) (post-is (n * slotSize) (n * slotSize + slotSize) q (omega arith))
-      ∙ sym (append-assoc (take (n * slotSize) q) s (drop (n * slotSize + slotSize) q))
+    slot-back : (s : List ℕ) → putMid start (start + slotSize - start) q s ≡ withSlot n s q
+    slot-back s =
+        ap (λ (r : List ℕ). take start q ++ (s ++ r)) (post-is start (start + slotSize) q (omega arith))
+        ∙ sym (append-assoc (take start q) s (drop (start + slotSize) q))
+        ∙ ap (λ (k : ℕ). take k q ++ s ++ drop (k + slotSize) q) begins
+
+    module _ (w : ℕ) (served : servable (length q) n w ≡ true) where
+      pub put-into-is : (src : List ℕ) {s : List ℕ} → length src ≤ slotSize - w → s ≡ putSlot w src (take (start + slotSize - start) (drop start q))
+          → putMid start (start + slotSize - start) q s ≡ putInto q n w src
+      unfolding putInto
+      put-into-is src {s} h e =
+          slot-back s ∙ ap (λ (r : List ℕ). withSlot n r q) (e ∙ ap (putSlot w src) slot-part) ∙ sym (yes _ _ _ served ∙ yes _ _ _ (le-leb _ _ h))
+
+      pub take-from-is : (k : ℕ) {s : List ℕ} → k ≤ w → s ≡ turnSlot w k (take (start + slotSize - start) (drop start q))
+          → putMid start (start + slotSize - start) q s ≡ takenFrom q n w k
+      unfolding takenFrom
+      take-from-is k {s} h e =
+          slot-back s ∙ ap (λ (r : List ℕ). withSlot n r q) (e ∙ ap (turnSlot w k) slot-part) ∙ sym (yes _ _ _ served ∙ yes _ _ _ (le-leb _ _ h))
 
   module _ (w : ℕ) (served : servable (length q) n w ≡ true) where
-    pub put-into-is : (src : List ℕ) {s : List ℕ} → length src ≤ slotSize - w
-        → s ≡ putSlot w src (take (n * slotSize + slotSize - n * slotSize) (drop (n * slotSize) q))
-        → putMid (n * slotSize) (n * slotSize + slotSize - n * slotSize) q s ≡ putInto q n w src
-    unfolding putInto
-    put-into-is src {s} h e =
-        slot-back s ∙ ap (λ (r : List ℕ). withSlot n r q) (e ∙ ap (putSlot w src) slot-part) ∙ sym (yes _ _ _ served ∙ yes _ _ _ (le-leb _ _ h))
-
     pub put-too-many : (src : List ℕ) → slotSize - w < length src → q ≡ putInto q n w src
     unfolding putInto
     put-too-many src h = sym (yes _ _ _ served ∙ no _ _ _ (lt-leb _ _ h))
-
-    pub take-from-is : (k : ℕ) {s : List ℕ} → k ≤ w → s ≡ turnSlot w k (take (n * slotSize + slotSize - n * slotSize) (drop (n * slotSize) q))
-        → putMid (n * slotSize) (n * slotSize + slotSize - n * slotSize) q s ≡ takenFrom q n w k
-    unfolding takenFrom
-    take-from-is k {s} h e =
-        slot-back s ∙ ap (λ (r : List ℕ). withSlot n r q) (e ∙ ap (turnSlot w k) slot-part) ∙ sym (yes _ _ _ served ∙ yes _ _ _ (le-leb _ _ h))
 
     pub take-too-many : (k : ℕ) → w < k → q ≡ takenFrom q n w k
     unfolding takenFrom

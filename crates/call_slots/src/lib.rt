@@ -6,6 +6,7 @@ use crate::slot::take_first;
 use session::SLOT_SIZE;
 ghost use mathlib.Core.Path.{_≡_};
 ghost use mathlib.Core.Bool.{_&&_};
+ghost use Prim.Native.Nat.{_*_};
 ghost use lib.Dec.{eqb, ltb, leb};
 ghost use lib.ListN.{length};
 ghost use Rattle.protocol.specs.Slot.{slotSize, queueSize};
@@ -25,13 +26,20 @@ fn is_servable(queue: usize, n: u8, waiting: u16) -> bool
     whole & numbered & within
 }
 
+// The place in the queue where the slot of a number begins.
+pub fn slot_start(n: u8) -> usize
+    ensures { λ r. ⌜ r ≡ n * slotSize ⌝ }
+{
+    (n as usize) * (SLOT_SIZE as usize)
+}
+
 // Puts bytes behind those that wait, and zeroes the rest of the slot; if they do not fit, the queue stays as it is.
 pub fn put_into(queue: &mut [u8], n: u8, waiting: u16, src: &[u8])
     ensures { λ _. ⌜ now (queue .exit) ≡ putInto (now (queue .entry)) n waiting (now (src .entry)) ⌝ }
 {
     if is_servable(queue.len(), n, waiting) {
         if src.len() <= (SLOT_SIZE - waiting) as usize {
-            let start = (n as usize) * (SLOT_SIZE as usize);
+            let start = slot_start(n);
             let end = start + (SLOT_SIZE as usize);
             put_behind(&mut queue[start..end], waiting as usize, src);
         }
@@ -44,7 +52,7 @@ pub fn take_from(queue: &mut [u8], n: u8, waiting: u16, count: u16)
 {
     if is_servable(queue.len(), n, waiting) {
         if count <= waiting {
-            let start = (n as usize) * (SLOT_SIZE as usize);
+            let start = slot_start(n);
             let end = start + (SLOT_SIZE as usize);
             take_first(&mut queue[start..end], waiting as usize, count as usize);
         }

@@ -92,16 +92,16 @@ module _ (c : Connection) (n : ℕ) (queue room : List ℕ) {x : Stepped} {res :
       → (res, queue, room) ≡ turnGives c queue room (decision (setting-session c n n (served n)) (steppedAs x))
   turn-refused e g = rw (e, g)
 
-  pub turn-taken : {w : ℕ} {t : Taken} {next : Connection} {wrote k : ℕ} {left last : List ℕ} {outs : List Output} → n < 128 → w ≡ at c n .waiting
+  pub turn-taken : {w start : ℕ} {t : Taken} {next : Connection} {wrote k : ℕ} {left last : List ℕ} {outs : List Output} → n < 128 → w ≡ at c n .waiting
       → w ≤ slotSize → length queue ≡ queueSize → turnRoom ≤ length room
       → x ≡ stepped.Taken t → next ≡ withServed c n (t .session) → outs ≡ map (λ m. sent (numbered n m)) (sentAs (t .sent))
-      → (wrote, last) ≡ atFront (bytesOfAll (take (n * slotSize + slotSize - n * slotSize) (drop (n * slotSize) queue)) outs) room
+      → start ≡ n * slotSize → (wrote, last) ≡ atFront (bytesOfAll (take (start + slotSize - start) (drop start queue)) outs) room
       → k ≡ w - t .session .waiting → left ≡ takenFrom queue n w k → res ≡ reporting next n wrote
       → (res, left, last) ≡ turnGives c queue room (decision (setting-session c n n (served n)) (steppedAs x))
-  turn-taken {w} {t} {next} {wrote} {k} {left} {last} {outs} number waits within whole roomy e is o wr less l g =
+  turn-taken {w} {start} {t} {next} {wrote} {k} {left} {last} {outs} number waits within whole roomy e is o begins wr less l g =
       let bytes = bytesOfAll (slot n queue) (map (λ m. sent (numbered n m)) (sentAs (t .sent))) in
       let size = sent-fits n (slot n queue) (t .sent) (slot-length n queue number whole) in
-      let out = rw (slot-part n queue, o) at wr ∙ fits bytes room (omega arith) in
+      let out = rw (slot-part n queue begins, o) at wr ∙ fits bytes room (omega arith) in
       let count : wrote ≡ length (bytesOfAll (slot n queue) (map (λ m. sent (numbered n m)) (sentAs (t .sent)))) = ap (λ (p : ℕ × List ℕ). p .0) out in
       let rest : last ≡ overlaid (bytesOfAll (slot n queue) (map (λ m. sent (numbered n m)) (sentAs (t .sent)))) room = ap (λ (p : ℕ × List ℕ). p .1) out in
       let after : left ≡ withSlot n (turnSlot (at c n .waiting) (at c n .waiting - t .session .waiting) (slot n queue)) queue =

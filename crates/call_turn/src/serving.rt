@@ -1,5 +1,6 @@
 // The session that a turn serves: its message is written, and the bytes that are sent leave its slot.
 use call_checks::refused;
+use call_slots::slot_start;
 use call_slots::take_from;
 use connection::far_start;
 use connection::own_start;
@@ -73,7 +74,7 @@ fn conclude_turn(
         Stepped::Taken(t) => {
             let x = t.session;
             let sent = t.sent;
-            let start = (n as usize) * (SLOT_SIZE as usize);
+            let start = slot_start(n);
             let end = start + (SLOT_SIZE as usize);
             let wrote = write_with(of_session(n, sent), &queue[start..end], room);
             take_from(queue, n, waiting, fewer(waiting, x.waiting));
