@@ -10,6 +10,9 @@ use script_words::head;
 use text_line::Line;
 use text_line::first;
 
+// The digits of the most bytes that a call writes: a message with a full slot.
+const MOST_DIGITS: usize = 8 + 2 * (SLOT_SIZE as usize);
+
 fn words(s: &[u8]) {
     io::write_all(STDOUT_FILENO, s);
 }
@@ -20,9 +23,9 @@ fn put(line: Line) {
     words(first(&bytes, n));
 }
 
-// Prints the digits of at most the first 512 bytes.
+// Prints the digits of the bytes, of no more of them than a call writes.
 fn put_some(s: &[u8]) {
-    let mut digits = [0u8; 1024];
+    let mut digits = [0u8; MOST_DIGITS];
     let n = script_words::to_hex(s, &mut digits);
     words(first(&digits, 2 * n));
 }
