@@ -3,7 +3,7 @@
 python3 expected.py > stdout"""
 
 # A slot, the room that a turn needs, and the queue.
-SLOT = 256
+SLOT = 512
 TURN = 4 + SLOT
 QUEUE = 128 * SLOT
 
@@ -36,6 +36,8 @@ def each(answer):
 
 # The columns:     start open put finish turn grant abort close ping shutdown lost receive
 # put of 4 bytes, grant of 1, abort without partial, receipt of a NoOperation message; all for number 5.
+
+line(f"slot {SLOT}, queue {QUEUE}", "a queue of exactly 128 slots, one for each number")
 
 ALL_14 = each("14")
 RATIONS = "finite rations in range"
@@ -226,6 +228,20 @@ line("client put 5: ok, same", f"0 is not more than {SLOT} minus {SLOT}")
 line("client put 5 7a: refused 6, same", FULL)
 line(f"client turn: ok id 5 wrote 8005{SLOT:04x}61616161..({TURN} bytes) then ee, changed, queue changed", f"4 plus {SLOT}")
 line("slot 5: dd00000000 .. 00dd", "turn zeroes the rest of the slot it serves")
+
+UNIT = 256  # bytes of a starting ration that a header number counts
+line(f"client put 5 6161616161616161..({SLOT} bytes): ok, changed, queue changed", "put needs our side opening or open")
+line("client finish 5: ok, changed", "finish needs our side opening or open")
+line(f"client turn: ok id 5 wrote 9005{UNIT:04x}61616161..({4 + UNIT} bytes) then ee, changed, queue changed",
+     f"an opening with {SLOT} waiting and a starting ration of {UNIT} sends {UNIT} first; bytes remain, so no eof")
+line("slot 5: dd61616161 .. 00dd", "the waiting bytes stand first in the slot; turn zeroes the rest of the slot it serves")
+line("client turn: refused 9, same", "ready: ration above 0")
+line(f"client receive 1005{UNIT:04x}: ok increment id 5 shift 0 increment {UNIT} used 4, changed", "0001xxx0 IncrementRation")
+line(f"client turn: ok id 5 wrote 8405{SLOT - UNIT:04x}61616161..({4 + SLOT - UNIT} bytes) then ee, changed, queue changed",
+     "eof exactly if finish was asked and nothing remains")
+
+line("server turn: ok id 5 wrote 80050105dddddddd..(265 bytes) then ee, changed, queue changed",
+     "the smaller of waiting and ration: 261 of a full slot")
 line("server put 5 616263: ok, changed, queue changed", "put needs our side open")
 line("server finish 5: ok, changed", "finish needs our side open")
 line("server turn: ok id 5 wrote 800500026162 then ee, changed, queue changed",

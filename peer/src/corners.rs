@@ -1,13 +1,13 @@
 //! The corners of the rules that scripts should reach, each told from one call.
 
 use crate::cover::Before;
-use crate::engine::{Engine, Taken};
+use crate::engine::{Engine, Taken, TURN_ROOM};
 use crate::play::{Player, Report};
 use crate::ration::Ration;
 use crate::refusal;
 use crate::script::Call;
 use crate::session::{Ours, Session, Theirs, SLOT};
-use crate::wire::{Data, Message};
+use crate::wire::{Data, Message, OPEN};
 
 /// One call with the state before and after it.
 pub struct Step<'a> {
@@ -82,6 +82,13 @@ impl<'a> Step<'a> {
         self.now.is_some_and(test)
     }
 
+    /// Tells whether a turn wrote a session's first message and left bytes waiting.
+    fn cut_opening(&self) -> bool {
+        let turn = matches!(self.answer, Ok(Report::Turn(_)));
+        let first = self.written.first().is_some_and(|byte| byte & OPEN != 0);
+        turn && first && self.is(|session| session.waiting > 0)
+    }
+
     /// Tells whether a violation was found.
     fn violation(&self) -> bool {
         matches!(self.answer, Err(number) if *number >= refusal::FIRST_VIOLATION)
@@ -124,7 +131,7 @@ fn ends(step: &Step, taken: fn(&Message) -> bool) -> bool {
 }
 
 /// All corners.
-pub const CORNERS: [Corner; 36] = [
+pub const CORNERS: [Corner; 38] = [
     ("turn: the ration cuts what waits", |step| {
         matches!(step.answer, Ok(Report::Turn(_))) && step.is(|session| session.waiting > 0)
     }),
@@ -139,9 +146,17 @@ pub const CORNERS: [Corner; 36] = [
     ("turn: no bytes but eof", |step| {
         matches!(step.answer, Ok(Report::Turn(_))) && step.written == [0x84, step.written[1], 0, 0]
     }),
-    ("turn: 256 bytes at once", |step| {
-        matches!(step.answer, Ok(Report::Turn(_))) && step.written.len() == 4 + SLOT
+    ("turn: a full slot of 512 bytes at once", |step| {
+        matches!(step.answer, Ok(Report::Turn(_))) && step.written.len() == TURN_ROOM
     }),
+    (
+        "turn: an opening sends its starting ration, and bytes remain",
+        |step| step.cut_opening(),
+    ),
+    (
+        "turn: an opening's eof is held back, as bytes remain",
+        |step| step.cut_opening() && step.is(|session| session.finish),
+    ),
     ("put: fills the slot", |step| {
         matches!(step.call, Call::Put { .. }) && step.ok() && step.is(|s| s.waiting == SLOT)
     }),

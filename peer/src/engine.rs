@@ -14,8 +14,10 @@ pub const NUMBERS: usize = 128;
 pub const QUEUE_LENGTH: usize = NUMBERS * SLOT;
 
 const RECEIVE_ROOM: usize = 12;
-const TURN_ROOM: usize = 260;
 const MESSAGE_ROOM: usize = 4;
+
+/// The room that turn asks for: that of a message with a full slot.
+pub const TURN_ROOM: usize = MESSAGE_ROOM + SLOT;
 
 /// How far the exchange of headers has come; `Up` holds the far header number.
 #[derive(Clone, Copy, Debug, PartialEq, Eq)]

@@ -7,12 +7,13 @@ mod alone;
 mod end;
 mod joined;
 
-use crate::engine::{Phase, NUMBERS};
+use crate::engine::{Phase, NUMBERS, QUEUE_LENGTH};
 use crate::noise;
 use crate::pick;
 use crate::play::{Player, Report};
 use crate::rng::Rng;
-use crate::script::{Call, First};
+use crate::script::{Call, First, LARGEST_QUEUE};
+use crate::session::SLOT;
 use crate::wire::{Message, Role};
 
 /// The calls of a script where the command names no number.
@@ -29,6 +30,20 @@ const FIRST_BYTE_SEED: u64 = 1;
 /// One of this many seeds aims to end while a running session's far side is finished.
 const ANSWERED_EVERY: u64 = 32;
 const ANSWERED_SEED: u64 = 19;
+
+/// Lengths of queues: none, around one slot, half of the right one, around the right one, the longest.
+const QUEUES: [u32; 10] = [
+    0,
+    1,
+    SLOT as u32 - 1,
+    SLOT as u32,
+    2 * SLOT as u32,
+    QUEUE_LENGTH as u32 / 2,
+    QUEUE_LENGTH as u32 - 1,
+    QUEUE_LENGTH as u32,
+    QUEUE_LENGTH as u32 + 1,
+    LARGEST_QUEUE,
+];
 
 /// What a script is about.
 #[derive(Clone, Copy, Debug, PartialEq, Eq)]
@@ -133,8 +148,8 @@ fn choose_header(rng: &mut Rng) -> u16 {
 /// Chooses a queue of a wrong length, and now and then the right one by name.
 fn choose_queue(rng: &mut Rng) -> u32 {
     match rng.below(3) {
-        0 => rng.below(70_001) as u32,
-        _ => rng.one_of(&[0, 1, 255, 256, 512, 32_767, 32_768, 32_769, 70_000]),
+        0 => rng.below(u64::from(LARGEST_QUEUE) + 1) as u32,
+        _ => rng.one_of(&QUEUES),
     }
 }
 

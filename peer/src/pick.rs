@@ -1,11 +1,17 @@
 //! Picks random calls and messages, some that fit a connection's state and some that do not.
 
-use crate::engine::{Engine, Phase};
+mod messages;
+
+pub use messages::{
+    any_message, brim_increment, good_message, session_message, some_length, with_body,
+};
+
+use crate::engine::{Engine, Phase, TURN_ROOM};
 use crate::ration::Ration;
 use crate::rng::Rng;
-use crate::script::{Call, Room, LARGEST_PUT};
-use crate::session::{Ours, Session, Theirs, SLOT};
-use crate::wire::{Data, Message, Role};
+use crate::script::{Call, Room, LARGEST_PUT, LARGEST_ROOM};
+use crate::session::{Ours, Session, SLOT};
+use crate::wire::Role;
 
 /// The aim of a run of calls.
 #[derive(Clone, Copy, Debug, PartialEq, Eq)]
@@ -18,13 +24,12 @@ pub enum Mood {
 
 /// Gives a room: edges of all the rooms that calls need, and others.
 pub fn room(rng: &mut Rng) -> Room {
-    let edges = [
-        0, 1, 3, 4, 5, 7, 8, 9, 11, 12, 13, 259, 260, 261, 599, 600, 601, 66_000,
-    ];
-    match rng.below(8) {
-        0 => Some(rng.below(66_001) as u32),
-        _ => Some(rng.one_of(&edges)),
-    }
+    let edges = [0, 1, 3, 4, 5, 7, 8, 9, 11, 12, 13, 599, 600, 601, 66_000];
+    Some(match rng.below(8) {
+        0 => rng.below(u64::from(LARGEST_ROOM) + 1) as u32,
+        1 => TURN_ROOM as u32 - 1 + rng.below(3) as u32,
+        _ => rng.one_of(&edges),
+    })
 }
 
 /// Gives a number of the pool that passes the test, if there is one.
@@ -93,34 +98,42 @@ fn try_good_call(rng: &mut Rng, engine: &Engine, pool: &[u8], mood: Mood) -> Opt
     Some(call)
 }
 
-/// Gives a turn, mostly where a number is ready.
+/// Gives a turn, mostly where a number is ready, at times with no more room than it asks for.
 fn good_turn(rng: &mut Rng, engine: &Engine) -> Option<Call> {
     let ready = engine.sessions.iter().any(Session::ready);
-    (ready || rng.percent(7)).then_some(Call::Turn { room: None })
+    let room = rng.percent(10).then_some(TURN_ROOM as u32);
+    (ready || rng.percent(7)).then_some(Call::Turn { room })
 }
 
 /// Gives a put, mostly of what fits.
 fn good_put(rng: &mut Rng, engine: &Engine, pool: &[u8]) -> Option<Call> {
     let id = id_where(rng, engine, pool, Session::may_put)?;
-    let space = SLOT - engine.sessions[usize::from(id)].waiting;
-    let count = match rng.below(12) {
+    let waiting = engine.sessions[usize::from(id)].waiting;
+    let space = SLOT - waiting;
+    let count = match rng.below(13) {
         0 => 0,
         1 | 2 => space,
         3 => (space + 1).min(LARGEST_PUT),
-        4..=6 => rng.below(space as u64 + 1) as usize,
+        4 => around_a_unit(rng).saturating_sub(waiting),
+        5..=7 => rng.below(space as u64 + 1) as usize,
         _ => rng.below(1 + space.min(8) as u64) as usize,
     };
     let bytes = rng.bytes(count);
     Some(Call::Put { id, bytes })
 }
 
-/// Gives a grant, mostly of a small amount.
+/// Gives a grant, mostly of a small amount or a unit, at times where the ration is used up.
 fn good_grant(rng: &mut Rng, engine: &Engine, pool: &[u8]) -> Option<Call> {
-    let id = id_where(rng, engine, pool, Session::may_grant)?;
-    let amount = match rng.below(8) {
+    let used_up = |s: &Session| s.may_grant() && s.inbound == Ration::Finite(0);
+    let id = match id_where(rng, engine, pool, used_up) {
+        Some(id) if rng.percent(50) => id,
+        _ => id_where(rng, engine, pool, Session::may_grant)?,
+    };
+    let amount = match rng.below(10) {
         0 => u32::from(rng.short()),
         1 => 65_535,
         2 => 1,
+        3 | 4 => Ration::UNIT,
         _ => rng.between(1, 120) as u32,
     };
     let room = None;
@@ -176,206 +189,21 @@ pub fn wild_call(rng: &mut Rng, pool: &[u8], ends: bool) -> Call {
     }
 }
 
-/// Gives bytes for a put or receive: none, few, around 256, or as many as put takes.
+/// Gives bytes for a put or receive: none, few, around a slot, around a unit, or as many as put takes.
 fn wild_bytes(rng: &mut Rng) -> Vec<u8> {
     let count = match rng.below(12) {
         0 => 0,
-        1 => rng.between(255, 258) as usize,
-        2 => rng.between(1023, 1024) as usize,
+        1 => SLOT - 1 + rng.below(4) as usize,
+        2 => LARGEST_PUT - rng.below(2) as usize,
+        3 => around_a_unit(rng),
         _ => rng.below(12) as usize,
     };
     rng.bytes(count)
 }
 
-/// Gives a message as bytes, with a random body of its length.
-pub fn with_body(rng: &mut Rng, message: &Message) -> Vec<u8> {
-    let mut bytes = message.start().to_vec();
-    bytes.extend(rng.bytes(usize::from(message.body())));
-    bytes
-}
-
-/// Gives a message that the engine takes, one that does not end the connection.
-pub fn good_message(rng: &mut Rng, engine: &Engine, pool: &[u8]) -> Vec<u8> {
-    for _ in 0..12 {
-        let message = any_message(rng, engine, pool);
-        if takes(engine, &message) {
-            return with_body(rng, &message);
-        }
-    }
-    let length = rng.below(4) as u16;
-    with_body(rng, &Message::NoOperation { length })
-}
-
-/// Tells whether the engine would take the message and go on.
-fn takes(engine: &Engine, message: &Message) -> bool {
-    let mut bytes = message.start().to_vec();
-    bytes.resize(message.size(), 0);
-    let mut trial = engine.clone();
-    trial.receive(&bytes, 12, &mut Vec::new()).is_ok() && !trial.over
-}
-
-/// The kinds of messages that do not end the connection.
-#[derive(Clone, Copy, Debug, PartialEq, Eq)]
-pub enum Kind {
-    NoOperation,
-    Ping,
-    PingAck,
-    Increment,
-    Abort,
-    Close,
-    Acknowledgment,
-    OpenData,
-    Data,
-}
-
-/// The kinds with how often each comes from a client and from a server.
-const KINDS: [(Kind, u32, u32); 9] = [
-    (Kind::NoOperation, 2, 2),
-    (Kind::Ping, 3, 3),
-    (Kind::PingAck, 3, 3),
-    (Kind::Increment, 16, 16),
-    (Kind::Abort, 8, 8),
-    (Kind::Close, 0, 10),
-    (Kind::Acknowledgment, 8, 0),
-    (Kind::OpenData, 16, 0),
-    (Kind::Data, 40, 40),
-];
-
-/// Gives a well-formed message from the far end to a number of the pool, in state or not.
-pub fn any_message(rng: &mut Rng, engine: &Engine, pool: &[u8]) -> Message {
-    let id = rng.one_of(pool);
-    let weights = KINDS.map(|(_, client, server)| match engine.role {
-        Role::Server => client,
-        Role::Client => server,
-    });
-    let (kind, _, _) = KINDS[rng.weighted(&weights)];
-    message_of_kind(rng, engine, id, kind)
-}
-
-/// Gives a message about a session, each kind that the far end may send as often as the others.
-pub fn session_message(rng: &mut Rng, engine: &Engine, pool: &[u8]) -> Message {
-    let id = rng.one_of(pool);
-    let kinds = match engine.role {
-        Role::Server => [
-            Kind::Increment,
-            Kind::Abort,
-            Kind::Acknowledgment,
-            Kind::OpenData,
-            Kind::Data,
-        ],
-        Role::Client => [
-            Kind::Increment,
-            Kind::Abort,
-            Kind::Close,
-            Kind::Close,
-            Kind::Data,
-        ],
-    };
-    let kind = rng.one_of(&kinds);
-    message_of_kind(rng, engine, id, kind)
-}
-
-/// Gives a message of a kind for a number.
-fn message_of_kind(rng: &mut Rng, engine: &Engine, id: u8, kind: Kind) -> Message {
-    match kind {
-        Kind::NoOperation => Message::NoOperation {
-            length: rng.below(5) as u16,
-        },
-        Kind::Ping => Message::Ping {
-            cookie: rng.short(),
-        },
-        Kind::PingAck => Message::PingAck {
-            cookie: engine.ping.unwrap_or(0),
-        },
-        Kind::Increment => any_increment(rng, id),
-        Kind::Abort => Message::Abort {
-            id,
-            partial: engine.role == Role::Client && rng.percent(50),
-            length: rng.below(3) as u16,
-        },
-        Kind::Close => Message::Close { id },
-        Kind::Acknowledgment => Message::Acknowledgment { id },
-        Kind::OpenData => Message::Data(open_data(rng, engine, id)),
-        Kind::Data => Message::Data(any_data(rng, engine, id)),
-    }
-}
-
-/// Gives an increment, small or shifted.
-fn any_increment(rng: &mut Rng, id: u8) -> Message {
-    let (shift, increment) = match rng.below(4) {
-        0 => (rng.below(8) as u8, rng.short()),
-        1 => (rng.below(8) as u8, rng.below(9) as u16),
-        _ => (0, rng.below(200) as u16),
-    };
-    Message::Increment {
-        id,
-        shift,
-        increment,
-    }
-}
-
-/// Gives an open Data message, of a length that the header's ration allows.
-fn open_data(rng: &mut Rng, engine: &Engine, id: u8) -> Data {
-    Data {
-        id,
-        open: true,
-        eof: rng.percent(30),
-        length: some_length(rng, Ration::from_header(engine.header)),
-        ..Data::default()
-    }
-}
-
-/// Gives a Data message without open, of a length that the session's ration allows.
-fn any_data(rng: &mut Rng, engine: &Engine, id: u8) -> Data {
-    let session = &engine.sessions[usize::from(id)];
-    let counted = Engine::inbound_counts(session);
-    let ration = if counted {
-        session.inbound
-    } else {
-        Ration::Endless
-    };
-    let eof = rng.percent(35);
-    let server = engine.role == Role::Client;
-    Data {
-        id,
-        open: false,
-        eof,
-        close: server && eof && rng.percent(35),
-        ack: server && eof && rng.percent(35),
-        length: some_length(rng, ration),
-    }
-}
-
-/// Gives a length within a ration: none, few, or all of it where that is not much.
-pub fn some_length(rng: &mut Rng, ration: Ration) -> u16 {
-    let wanted = match (rng.below(10), ration) {
-        (0, _) => 0,
-        (1 | 2, Ration::Finite(left)) if left <= 1_100 => left,
-        (1, _) => rng.below(700) as u32,
-        _ => rng.below(12) as u32,
-    };
-    ration.at_most(wanted) as u16
-}
-
-/// Gives the next increment on the shortest way to the largest outbound ration.
-pub fn brim_increment(engine: &Engine, id: u8) -> Option<Message> {
-    let session = &engine.sessions[usize::from(id)];
-    let Ration::Finite(outbound) = session.outbound else {
-        return None;
-    };
-    if session.ours != Ours::Open || !matches!(session.theirs, Theirs::Open | Theirs::Finished) {
-        return None;
-    }
-    let left = Ration::LARGEST - outbound;
-    let (shift, increment) = match left >> 14 {
-        0 => (0, left),
-        large => (7, large.min(65_535)),
-    };
-    Some(Message::Increment {
-        id,
-        shift,
-        increment: increment as u16,
-    })
+/// Gives a number of bytes around the smallest starting ration.
+fn around_a_unit(rng: &mut Rng) -> usize {
+    Ration::UNIT as usize - 1 + rng.below(3) as usize
 }
 
 /// Tells whether messages may go, that is, whether the headers are exchanged and it is not over.

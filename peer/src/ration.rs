@@ -12,11 +12,14 @@ impl Ration {
     /// The largest finite ration.
     pub const LARGEST: u32 = 0x7FFF_FFFF;
 
-    /// Gives the starting ration that a header number grants: 256 times it, or endless for 0.
+    /// The bytes that each unit of a header number grants, and so the smallest starting ration.
+    pub const UNIT: u32 = 256;
+
+    /// Gives the starting ration that a header number grants: that many units, or endless for 0.
     pub fn from_header(number: u16) -> Ration {
         match number {
             0 => Ration::Endless,
-            n => Ration::Finite(u32::from(n) * 256),
+            n => Ration::Finite(u32::from(n) * Ration::UNIT),
         }
     }
 

@@ -5,7 +5,7 @@ use crate::refusal;
 use crate::wire::{effective, Data, Message, Role};
 
 /// The most bytes that may wait in one number's slot of the queue.
-pub const SLOT: usize = 256;
+pub const SLOT: usize = 512;
 
 /// Our side of a number; idle where the number as a whole is idle.
 #[derive(Clone, Copy, Debug, PartialEq, Eq, PartialOrd, Ord)]
@@ -187,6 +187,11 @@ impl Session {
             Ours::Open => self.finish,
             _ => false,
         }
+    }
+
+    /// Tells whether bytes wait that can only go after an increment.
+    pub fn is_held_up(&self) -> bool {
+        self.ours == Ours::Open && self.waiting > 0 && !self.ready()
     }
 
     /// Makes our side opening and remembers the sides before.

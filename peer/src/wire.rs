@@ -39,7 +39,9 @@ pub const LARGEST_ID: u8 = 127;
 
 const MAGIC_AND_VERSION: [u8; 5] = [0x4A, 0x6D, 0x75, 0x78, 0x01];
 
-const OPEN: u8 = 0x10;
+/// The open flag in the first byte of a Data message.
+pub const OPEN: u8 = 0x10;
+
 const CLOSE: u8 = 0x08;
 const EOF: u8 = 0x04;
 const ACK: u8 = 0x02;

@@ -8,7 +8,7 @@ use peer::play::play_bytes;
 #[test]
 fn rooms_and_queues() {
     let lines = play(&[
-        "client 4 queue 32767",
+        "client 4 queue 65535",
         "start 7",
         "start 8",
         "receive 4a6d757801000400 11",
@@ -16,7 +16,7 @@ fn rooms_and_queues() {
         "open 5",
         "put 5 00",
         "put 200 00",
-        "turn 259",
+        "turn 515",
         "turn",
         "queue 126",
         "queue 127",
@@ -34,32 +34,23 @@ fn rooms_and_queues() {
         "turn refused 8",
     ];
     assert_eq!(lines[..9], wanted);
-    assert_eq!(lines[9], format!("queue {}", "dd".repeat(256)));
+    assert_eq!(lines[9], format!("queue {}", "dd".repeat(512)));
     assert_eq!(lines[10..], ["queue none", "queue none"]);
+}
+
+/// Plays a client that puts more than its ration of 256, asks for the end, and gets an increment.
+fn two_puts_of_200() -> Vec<String> {
+    let first = format!("put 5 {}", "61".repeat(200));
+    let second = format!("put 5 {}", "62".repeat(200));
+    let begin = ["open 5", &first, "turn", &second, "finish 5"];
+    let cut = ["turn", "turn", "state", "queue 5"];
+    let rest = ["receive 10050090", "turn", "queue 5", "state"];
+    client(1, &[&begin[..], &cut, &rest].concat())
 }
 
 #[test]
 fn the_ration_cuts_a_turn() {
-    let first = format!("put 5 {}", "61".repeat(200));
-    let second = format!("put 5 {}", "62".repeat(200));
-    let lines = client(
-        1,
-        &[
-            "open 5",
-            &first,
-            "turn",
-            &second,
-            "finish 5",
-            "turn",
-            "turn",
-            "state",
-            "queue 5",
-            "receive 10050090",
-            "turn",
-            "queue 5",
-            "state",
-        ],
-    );
+    let lines = two_puts_of_200();
     assert_eq!(
         lines[5],
         format!("turn ok id 5 wrote 80050038{}", "62".repeat(56))
@@ -69,13 +60,18 @@ fn the_ration_cuts_a_turn() {
         lines[8],
         "session 5 open open outcome running out 0 in 1024 waiting 144 finish"
     );
-    let slot = "62".repeat(144) + &"00".repeat(112);
+    let slot = "62".repeat(144) + &"00".repeat(368);
     assert_eq!(lines[9], format!("queue {slot}"));
+}
+
+#[test]
+fn an_increment_lets_the_rest_go() {
+    let lines = two_puts_of_200();
     assert_eq!(
         lines[11],
         format!("turn ok id 5 wrote 84050090{}", "62".repeat(144))
     );
-    assert_eq!(lines[12], format!("queue {}", "00".repeat(256)));
+    assert_eq!(lines[12], format!("queue {}", "00".repeat(512)));
     assert_eq!(
         last(lines),
         "session 5 finished open outcome running in 1024"

@@ -41,20 +41,28 @@ fn default_seeds_reach_everything() {
     assert_eq!(cover.impossible_pairs(), Vec::<String>::new());
 }
 
+/// Gives how often 2,000 scripts reach the corners whose names hold this text.
+fn corners_with(text: &str) -> Vec<u64> {
+    let report = compare::cover(1..2001, USUAL_CALLS).report(false);
+    let corners = report.lines().filter(|line| line.contains(text));
+    let times = corners.map(|line| line.split(' ').next_back().unwrap().parse().unwrap());
+    times.collect()
+}
+
 /// Chance brings each end to sessions whose far side is finished, and not just once.
 #[test]
 fn ends_often_meet_finished_far_sides() {
-    let report = compare::cover(1..2001, USUAL_CALLS).report(false);
-    let corners = report
-        .lines()
-        .filter(|line| line.contains("running session"));
-    let mut count = 0;
-    for corner in corners {
-        let times = corner.split(' ').next_back().unwrap();
-        assert!(times.parse::<u64>().unwrap() >= 5, "{corner}");
-        count += 1;
-    }
-    assert_eq!(count, 6);
+    let times = corners_with("running session");
+    assert_eq!(times.len(), 6);
+    assert!(times.iter().all(|&times| times >= 5), "{times:?}");
+}
+
+/// Chance brings first messages that their starting ration cuts, and an eof held back there.
+#[test]
+fn first_messages_are_often_cut() {
+    let times = corners_with("turn: an opening");
+    assert_eq!(times.len(), 2);
+    assert!(times.iter().all(|&times| times >= 30), "{times:?}");
 }
 
 #[test]

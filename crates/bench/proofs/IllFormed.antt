@@ -9,7 +9,7 @@ unfolding wellFormed allFormed sessionFormed AllForms
 every-form-row =
     -- finite rations in range
     (refl, refl) and (refl, refl) and (refl, refl) and (refl, refl)
-    -- waiting at most 256
+    -- waiting at most 512
     and (refl, refl) and (refl, refl)
     -- and 0 unless our side is opening or open
     and (refl, refl) and (refl, refl) and (refl, refl)

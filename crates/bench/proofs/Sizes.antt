@@ -31,6 +31,6 @@ every-size-row =
     and refl and refl and refl and refl and refl and refl and refl
     -- turn
     and refl and refl and refl and refl
-    -- and a room of 260 even if nothing waits
+    -- and a room of 516 even if nothing waits
     and refl and refl
     and tt

@@ -69,9 +69,9 @@ formTable =
     ∷ form-row (numberSet serverUp 127 (openWith (Finite 2_147_483_648) (Finite 0))) (numberSet serverUp 127 (openWith Endless (Finite 0)))
     ∷ form-row (numberSet clientUp 5 (openWith Endless (Finite 2_147_483_648))) (numberSet clientUp 5 (openWith Endless (Finite 2_147_483_647)))
     ∷ form-row (numberSet serverUp 127 (openWith (Finite 0) (Finite 2_147_483_648))) (numberSet serverUp 127 (openWith (Finite 0) Endless))
-    -- waiting at most 256: on an open side, and on an opening
-    ∷ form-row (numberSet serverUp 5 (waitingOn openSides 257)) (numberSet serverUp 5 (waitingOn openSides 256))
-    ∷ form-row (numberSet clientUp 127 (waitingOn (sides.Opening before.Ended) 257)) (numberSet clientUp 127 (waitingOn (sides.Opening before.Ended) 256))
+    -- waiting at most 512: on an open side, and on an opening
+    ∷ form-row (numberSet serverUp 5 (waitingOn openSides 513)) (numberSet serverUp 5 (waitingOn openSides 512))
+    ∷ form-row (numberSet clientUp 127 (waitingOn (sides.Opening before.Ended) 513)) (numberSet clientUp 127 (waitingOn (sides.Opening before.Ended) 512))
     -- and 0 unless our side is opening or open: here it is finished, ended, idle
     ∷ form-row (numberSet serverUp 0 (waitingOn (sides.Live side.Finished side.Open) 1)) (numberSet serverUp 0 (waitingOn (sides.Live side.Finished side.Open) 0))
     ∷ form-row (numberSet clientUp 5 (waitingOn (sides.Live side.Ended side.Open) 1)) (numberSet clientUp 5 (waitingOn (sides.Live side.Ended side.Open) 0))

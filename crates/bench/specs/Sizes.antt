@@ -1,5 +1,5 @@
 -- The sizes that calls need: a room one byte short and a queue one byte short or long are refused with 8, the exact size is not; a slot
--- takes 256 bytes and no more. The states are made by calls.
+-- takes 512 bytes and no more. The states are made by calls.
 use mathlib.Core.Path.{_≡_}
 use mathlib.Core.Bool.{true, false}
 use mathlib.Core.List.{List, [], _∷_}
@@ -56,15 +56,15 @@ startedClient = startCall newClient (ofZeros 8) .0 .connection
 abbrev pub openingClient : Connection
 openingClient = openCall (receiveCall startedClient (header-of 4) (ofZeros 12) .0 .connection) 5 .connection
 
--- 256 bytes, each 7, wait for number 5 and are in its slot
+-- 512 bytes, each 7, wait for number 5 and are in its slot
 abbrev pub sevens : ℕ → List ℕ
 sevens n = replicate n 7
 
 abbrev pub fullClient : Connection
-fullClient = putCall openingClient 5 (sevens 256) (ofZeros 32_768) .0 .connection
+fullClient = putCall openingClient 5 (sevens 512) (ofZeros 65_536) .0 .connection
 
 abbrev pub fullQueue : List ℕ
-fullQueue = putCall openingClient 5 (sevens 256) (ofZeros 32_768) .1
+fullQueue = putCall openingClient 5 (sevens 512) (ofZeros 65_536) .1
 
 -- ---- a server: our header number 8, the far one 4; its client has opened number 5
 
@@ -77,7 +77,7 @@ openServer =
 
 -- our side of number 5 is finished
 abbrev pub finishedServer : Connection
-finishedServer = turnCall (finishCall openServer 5 .connection) (ofZeros 32_768) (ofZeros 260) .0 .connection
+finishedServer = turnCall (finishCall openServer 5 .connection) (ofZeros 65_536) (ofZeros 516) .0 .connection
 
 -- ---- the table
 
@@ -104,20 +104,20 @@ sizeTable =
     ∷ gives-and-must (inRoomOf (pingCall openServer 0x1234 (ofZeros 4))) (ok done) (0x04 ∷ 0x00 ∷ 0x12 ∷ 0x34 ∷ [])
     ∷ gives-and-must (inRoomOf (shutdownCall openServer (ofZeros 3))) (refused 8) []
     ∷ gives-and-must (inRoomOf (shutdownCall openServer (ofZeros 4))) (ok done) (0x02 ∷ 0x00 ∷ 0x00 ∷ 0x00 ∷ [])
-    -- put: a queue of 32,768, and 256 bytes for a number
-    ∷ gives-and-must (ofQueue (putCall openingClient 5 (sevens 1) (ofZeros 32_767))) (refused 8) []
-    ∷ gives-and-must (ofQueue (putCall openingClient 5 (sevens 1) (ofZeros 32_769))) (refused 8) []
-    ∷ gives-and-must (ofQueue (putCall openingClient 5 (sevens 1) (ofZeros 32_768))) (ok done) []
-    ∷ gives-and-must (ofQueue (putCall openingClient 5 (sevens 257) (ofZeros 32_768))) (refused 6) []
-    ∷ gives-and-must (ofQueue (putCall openingClient 5 (sevens 256) (ofZeros 32_768))) (ok done) []
+    -- put: a queue of 65,536, and 512 bytes for a number
+    ∷ gives-and-must (ofQueue (putCall openingClient 5 (sevens 1) (ofZeros 65_535))) (refused 8) []
+    ∷ gives-and-must (ofQueue (putCall openingClient 5 (sevens 1) (ofZeros 65_537))) (refused 8) []
+    ∷ gives-and-must (ofQueue (putCall openingClient 5 (sevens 1) (ofZeros 65_536))) (ok done) []
+    ∷ gives-and-must (ofQueue (putCall openingClient 5 (sevens 513) (ofZeros 65_536))) (refused 6) []
+    ∷ gives-and-must (ofQueue (putCall openingClient 5 (sevens 512) (ofZeros 65_536))) (ok done) []
     ∷ gives-and-must (ofQueue (putCall fullClient 5 (sevens 1) fullQueue)) (refused 6) []
     ∷ gives-and-must (ofQueue (putCall fullClient 5 [] fullQueue)) (ok done) []
-    -- turn: a room of 260 and a queue of 32,768, for an opening with a full slot, which is sent whole
-    ∷ gives-and-must (ofTurn (turnCall fullClient fullQueue (ofZeros 259))) (refused 8) []
-    ∷ gives-and-must (ofTurn (turnCall fullClient (ofZeros 32_767) (ofZeros 260))) (refused 8) []
-    ∷ gives-and-must (ofTurn (turnCall fullClient (ofZeros 32_769) (ofZeros 260))) (refused 8) []
-    ∷ gives-and-must (ofTurn (turnCall fullClient fullQueue (ofZeros 260))) (ok (served 5)) (0x90 ∷ 0x05 ∷ 0x01 ∷ 0x00 ∷ sevens 256)
-    -- and a room of 260 even if nothing waits
-    ∷ gives-and-must (ofTurn (turnCall openingClient (ofZeros 32_768) (ofZeros 259))) (refused 8) []
-    ∷ gives-and-must (ofTurn (turnCall openingClient (ofZeros 32_768) (ofZeros 260))) (ok (served 5)) (0x90 ∷ 0x05 ∷ 0x00 ∷ 0x00 ∷ [])
+    -- turn: a room of 516 and a queue of 65,536, for an opening with a full slot, which is sent whole
+    ∷ gives-and-must (ofTurn (turnCall fullClient fullQueue (ofZeros 515))) (refused 8) []
+    ∷ gives-and-must (ofTurn (turnCall fullClient (ofZeros 65_535) (ofZeros 516))) (refused 8) []
+    ∷ gives-and-must (ofTurn (turnCall fullClient (ofZeros 65_537) (ofZeros 516))) (refused 8) []
+    ∷ gives-and-must (ofTurn (turnCall fullClient fullQueue (ofZeros 516))) (ok (served 5)) (0x90 ∷ 0x05 ∷ 0x02 ∷ 0x00 ∷ sevens 512)
+    -- and a room of 516 even if nothing waits
+    ∷ gives-and-must (ofTurn (turnCall openingClient (ofZeros 65_536) (ofZeros 515))) (refused 8) []
+    ∷ gives-and-must (ofTurn (turnCall openingClient (ofZeros 65_536) (ofZeros 516))) (ok (served 5)) (0x90 ∷ 0x05 ∷ 0x00 ∷ 0x00 ∷ [])
     ∷ []

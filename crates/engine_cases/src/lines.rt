@@ -127,6 +127,13 @@ pub(crate) fn line(b: Bench, asked: Call, bytes: &[u8]) -> Bench {
     after
 }
 
+// Prints the sizes of a slot and of the queue.
+pub(crate) fn sizes() {
+    item(show::SLOT, SLOT_SIZE as u64);
+    item(show::QUEUE, QUEUE_SIZE as u64);
+    say(show::LINE_END);
+}
+
 // Prints the first bytes of slot 5 with the one before them, and its last byte with the one behind it.
 pub(crate) fn slot_5(b: Bench) {
     let queue = b.queue;

@@ -64,6 +64,10 @@ const BYTES: u8 = 40;
 
 pub(crate) const WRONG: u8 = 41;
 
+pub(crate) const SLOT: u8 = 42;
+
+pub(crate) const QUEUE: u8 = 43;
+
 pub(crate) fn text(words: &[u8]) {
     io::write_all(STDOUT_FILENO, words);
 }
@@ -116,7 +120,7 @@ pub(crate) fn say(number: u8) {
         b"start/open/put/finish/turn/grant/abort/close/ping/shutdown/lost/receive/client /server /\
         , same/, over/, changed/: none\n/: running\n/: complete\n/: may be retried\n/: must not be retried\n/ /, /\n/\
         , queue changed\n/ used / payload / wrote / then / spoiled/\
-        slot 5: / .. /fate of / partial/:/ ok/; same\n/; spoiled\n/..(/ bytes)/wrong line\n/";
+        slot 5: / .. /fate of / partial/:/ ok/; same\n/; spoiled\n/..(/ bytes)/wrong line\n/slot /, queue /";
     text(until(words, place(words, number), b'/'));
 }
 

@@ -17,8 +17,8 @@ use engine::Connection;
 use engine::Role;
 use engine::SLOT_SIZE;
 
-// The most bytes that a line names: a byte more than a message with a full slot.
-const MOST_BYTES: usize = 5 + (SLOT_SIZE as usize);
+// The most bytes that a line names: a byte more than a slot.
+const MOST_BYTES: usize = 1 + (SLOT_SIZE as usize);
 
 // The first 16 bytes that hexadecimal digits name; the bytes behind them repeat the 16th.
 fn bytes_of(s: &[u8]) -> [u8; MOST_BYTES] {

@@ -7,6 +7,7 @@ pub mod Sends
 pub mod Sound
 pub mod Slots
 pub mod Sizes
+pub mod Due
 pub mod FormedOnly
 pub mod Asks
 pub mod Turns

@@ -1,4 +1,4 @@
--- What a well-formed state is, item by item, in numbers and cases: finite rations in range, waiting at most 256 and 0 unless our side
+-- What a well-formed state is, item by item, in numbers and cases: finite rations in range, waiting at most 512 and 0 unless our side
 -- is opening or open, finish asked only there, last served at most 127, no opening at a server, all numbers idle before the headers.
 use Prim.Native.Nat.{ℕ, _≤_, _<_}
 use mathlib.Core.Path.{_≡_}
@@ -29,7 +29,7 @@ Unless (sides.Live side.Ended theirs) item = item
 pub record SessionItems (st : Stage) (x : Session) : Type 0 where
   pub outbound : (left : ℕ) → x .outbound ≡ ration.Finite left → left ≤ 2_147_483_647
   pub inbound : (left : ℕ) → x .inbound ≡ ration.Finite left → left ≤ 2_147_483_647
-  pub waiting : x .waiting ≤ 256
+  pub waiting : x .waiting ≤ 512
   pub none-waits : Unless (x .sides) (x .waiting ≡ 0)
   pub no-finish : Unless (x .sides) (x .finish ≡ false)
   pub no-opening : (far : ℕ) (b : Before) → st ≡ stage.Up role.Server far → x .sides ≡ sides.Opening b → ⊥

@@ -1,8 +1,8 @@
--- The sizes of the queue: 256 bytes for each of the 128 session numbers.
+-- The sizes of the queue: 512 bytes for each of the 128 session numbers.
 use Prim.Native.Nat.{ℕ, _*_, _+_}
 
 abbrev pub slotSize : ℕ
-slotSize = 256
+slotSize = 512
 
 abbrev pub queueSize : ℕ
 queueSize = 128 * slotSize

@@ -1,6 +1,7 @@
 -- Runs from a connection just made, and what their logs tell.
 pub mod Played
 pub mod Case6
+pub mod FirstPart
 pub mod ServerRun
 pub mod Ledgers
 pub mod Breaks

@@ -125,8 +125,8 @@ pub told-alone : (s : Setup) (q : ℕ) (a : Account) (n k : ℕ) (b : Bool) (byt
     × (answerTold s q a lost x ≡ answerTold s q a lost y)
 told-alone s q a n k b bytes room x y = (refl, refl, refl, refl, refl, refl, refl, refl, refl, refl)
 
--- every byte behind those that wait, up to the 256th
-pub rest-in-numbers : (t : State) (n : ℕ) → RestZero t n → (i : ℕ) → at (t .connection) n .waiting ≤ i → i < 256 → getD (slot n (t .queue)) i 1 ≡ 0
+-- every byte behind those that wait, up to the 512th
+pub rest-in-numbers : (t : State) (n : ℕ) → RestZero t n → (i : ℕ) → at (t .connection) n .waiting ≤ i → i < 512 → getD (slot n (t .queue)) i 1 ≡ 0
 rest-in-numbers t n z = z
 
 -- sessions that are the same but for the outcome are the same once it is set

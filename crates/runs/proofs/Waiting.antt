@@ -40,7 +40,7 @@ meanwhile =
     taken (put 5 (0x62 ∷ [])) done []
     ∷ taken (open-session 9) done []
     ∷ taken turns (served 9) (0x90 ∷ 0x09 ∷ 0x00 ∷ 0x00 ∷ [])
-    ∷ refuses (turn (zeros 259)) 8
+    ∷ refuses (turn (zeros 515)) 8
     ∷ taken (grant 5 1 (zeros 4)) done (0x10 ∷ 0x05 ∷ 0x00 ∷ 0x01 ∷ [])
     ∷ took 4 (0x10 ∷ 0x05 ∷ 0x00 ∷ 0x01 ∷ []) (message (msg.IncrementRation 0 5 1) false) []
     ∷ taken (ping 1 (zeros 4)) done (0x04 ∷ 0x00 ∷ 0x00 ∷ 0x01 ∷ [])

@@ -5,7 +5,7 @@ use refusal::Refusal;
 use state::Session;
 
 // How many bytes of the queue each session number has.
-pub const SLOT_SIZE: u16 = 256;
+pub const SLOT_SIZE: u16 = 512;
 
 // A message of ours for a session: no detail, and an increment unshifted.
 pub enum Sent {

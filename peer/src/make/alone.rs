@@ -152,7 +152,7 @@ impl Maker {
         self.connect();
         let id = self.rng.one_of(&self.pool);
         self.open_for_grants(id);
-        let mut left = Ration::LARGEST - 65_535 * 256;
+        let mut left = Ration::LARGEST - 65_535 * Ration::UNIT;
         while left > 0 && !self.near.engine.over {
             let amount = left.min(65_535);
             let room = None;
