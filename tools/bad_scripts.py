@@ -116,7 +116,7 @@ def good_ends():
         yield comment + b"\nclient 4\nstate\n" + comment, FRESH, b""
         yield b"client 4\nstate\n" + comment + b"\n" + comment + b"\nlost 1", FRESH + wrong(5), reason(5, b"lost 1")
     longest = b"receive " + b"00" * 66000 + b" 66000"
-    refused = b"receive refused 22 wrote 08000000\nreceive refused 2\n"
+    refused = b"receive refused 22 at 0 wrote 08000000\nreceive refused 2\n"
     yield BEGUN + longest + b"\n" + longest + b"\nopen", STARTED + refused + wrong(7), reason(7, b"open")
 
 

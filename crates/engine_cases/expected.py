@@ -26,8 +26,13 @@ def line(text, why):
     print(text)
 
 
-def violation(receive, number, why):
-    line(f"{receive}: refused {number} wrote 08000000 then ee, over", why)
+# The place of the byte at fault, for the numbers that have only one.
+PLACES = {20: 0, 23: 0, 24: 0, 25: 1, 26: 2, 27: 2, 28: 2}
+
+
+def violation(receive, number, why, place=None):
+    place = PLACES[number] if place is None else place
+    line(f"{receive}: refused {number} at {place} wrote 08000000 then ee, over", why)
 
 
 def each(answer):
@@ -254,12 +259,13 @@ line("server put 5 64: refused 5, same", "put needs our side opening or open")
 
 line("client receive 4a6d757801000400: refused 1, same", "1: receive: client not started")
 line("client receive 4a6d7578010004: refused 10, same", "fewer than 8 bytes of a header")
-line("client receive 4a6d757802000400: refused 22 wrote 08000000 then ee, over", "case 1; a violation writes Error")
+violation("client receive 4a6d757802000400", 22, "case 1; a violation writes Error", place=4)
 line("client receive 4a6d757801000000: ok header 0 used 8, changed", "case 1: header number 0")
 line("server receive 6a756e6b: refused 10, same", "fewer than 8 bytes of a header")
-line("server receive 4a6d757801000401: refused 22 wrote 4a6d75780100040008000000 then ee, over",
+line("server receive 4a6d757801000401: refused 22 at 7 wrote 4a6d75780100040008000000 then ee, over",
      "the last byte is 00; at a server for a bad first header its own 8-byte header and then Error")
-line("server receive 6a6d757801000400: refused 22 wrote 4a6d75780100040008000000 then ee, over", "4A 6D 75 78")
+line("server receive 6a6d757801000400: refused 22 at 0 wrote 4a6d75780100040008000000 then ee, over", "4A 6D 75 78")
+line("server receive 4a6d757902ffff01: refused 22 at 3 wrote 4a6d75780100040008000000 then ee, over", "the first wrong byte of the header")
 line("server receive 4a6d75780100040090: ok header 4 used 8 wrote 4a6d757801000400 then ee, changed", "a header, 8")
 
 line("server receive: refused 10, same", "fewer than 4 bytes of a message")
@@ -268,9 +274,10 @@ line("server receive 900500036162: refused 10, same", "10: message not all there
 violation("server receive 01000000", 20, "case 3")
 violation("server receive 91050003", 20, "no pattern ends in 1; 20 before 10")
 violation("client receive 0a000000", 20, "no type has 0A")
-violation("server receive 04800000", 21, "case 3")
-violation("server receive 30070001", 21, "0 for Close; 21 before 23")
-violation("client receive 00010005", 21, "second byte: else 0; 21 before 10")
+violation("server receive 04800000", 21, "case 3", place=1)
+violation("server receive 30070001", 21, "0 for Close; 21 before 23", place=3)
+violation("server receive 40000101", 21, "0 for Acknowledgment; the first byte with a wrong reserved bit", place=2)
+violation("client receive 00010005", 21, "second byte: else 0; 21 before 10", place=1)
 violation("server receive 02000000", 23, "Shutdown from a client")
 violation("server receive 30070000", 23, "Close from a client")
 violation("client receive 40070000", 23, "Acknowledgment from a server")
@@ -372,6 +379,6 @@ for fate in ["must not be retried"] + ["may be retried"] * 3 + ["must not be ret
 for _ in ("open", "finished"):
     ended("lost: ok, over", "must not be retried", "a lost line: every running session that was sent")
 for _ in ("open", "finished"):
-    ended("receive 01000000: refused 20 wrote 08000000 then ee, over", "must not be retried", "a violation counts as a lost line")
+    ended("receive 01000000: refused 20 at 0 wrote 08000000 then ee, over", "must not be retried", "a violation counts as a lost line")
 for _ in ("open", "finished"):
     ended("receive 02000000: ok shutdown length 0 used 4, over", "may be retried", "may be retried: Shutdown")

@@ -4,16 +4,16 @@ use crate::cover::Before;
 use crate::engine::{Engine, Taken, TURN_ROOM};
 use crate::play::{Player, Report};
 use crate::ration::Ration;
-use crate::refusal;
+use crate::refusal::{self, Refusal};
 use crate::script::Call;
 use crate::session::{Ours, Session, Theirs, SLOT};
-use crate::wire::{Data, Message, OPEN};
+use crate::wire::{self, Data, Message, OPEN};
 
 /// One call with the state before and after it.
 pub struct Step<'a> {
     call: &'a Call,
     before: &'a Before,
-    answer: &'a Result<Report, u8>,
+    answer: &'a Result<Report, Refusal>,
     /// The session that the call was about, as it is now.
     now: Option<&'a Session>,
     written: &'a [u8],
@@ -26,7 +26,7 @@ impl<'a> Step<'a> {
         player: &'a Player,
         call: &'a Call,
         before: &'a Before,
-        answer: &'a Result<Report, u8>,
+        answer: &'a Result<Report, Refusal>,
     ) -> Step<'a> {
         let id = match answer {
             Ok(Report::Turn(id)) => Some(*id),
@@ -89,9 +89,22 @@ impl<'a> Step<'a> {
         turn && first && self.is(|session| session.waiting > 0)
     }
 
+    /// Tells whether the call was refused with this number.
+    fn refused(&self, number: u8) -> bool {
+        matches!(self.answer, Err(refusal) if refusal.number() == number)
+    }
+
     /// Tells whether a violation was found.
     fn violation(&self) -> bool {
-        matches!(self.answer, Err(number) if *number >= refusal::FIRST_VIOLATION)
+        matches!(self.answer, Err(Refusal::Violation(_)))
+    }
+
+    /// Tells whether the input of receive begins with this many bytes that pass the test.
+    fn begins<const N: usize>(&self, test: impl Fn([u8; N]) -> bool) -> bool {
+        let Call::Receive { bytes, .. } = self.call else {
+            return false;
+        };
+        bytes.first_chunk().is_some_and(|start| test(*start))
     }
 
     /// Tells whether an Error was taken.
@@ -131,7 +144,7 @@ fn ends(step: &Step, taken: fn(&Message) -> bool) -> bool {
 }
 
 /// All corners.
-pub const CORNERS: [Corner; 38] = [
+pub const CORNERS: [Corner; 40] = [
     ("turn: the ration cuts what waits", |step| {
         matches!(step.answer, Ok(Report::Turn(_))) && step.is(|session| session.waiting > 0)
     }),
@@ -170,7 +183,7 @@ pub const CORNERS: [Corner; 38] = [
     }),
     ("put or finish: after finish was asked", |step| {
         matches!(step.call, Call::Put { .. } | Call::Finish { .. })
-            && *step.answer == Err(refusal::SIDE)
+            && step.refused(refusal::SIDE)
             && step.was(|session| session.finish)
     }),
     ("open: a number that was used before", |step| {
@@ -187,7 +200,7 @@ pub const CORNERS: [Corner; 38] = [
     }),
     ("abort: of an opening with too little room", |step| {
         matches!(step.call, Call::Abort { .. })
-            && *step.answer == Err(refusal::ROOM)
+            && step.refused(refusal::ROOM)
             && step.was(|session| session.ours == Ours::Opening)
     }),
     ("abort: drops bytes that waited", |step| {
@@ -199,10 +212,10 @@ pub const CORNERS: [Corner; 38] = [
             && step.is(|session| session.inbound == Ration::Finite(Ration::LARGEST))
     }),
     ("grant: past the largest", |step| {
-        *step.answer == Err(refusal::GRANT_SUM) && step.was(|s| s.inbound != Ration::Endless)
+        step.refused(refusal::GRANT_SUM) && step.was(|s| s.inbound != Ration::Endless)
     }),
     ("grant: to an endless ration", |step| {
-        *step.answer == Err(refusal::GRANT_SUM) && step.was(|s| s.inbound == Ration::Endless)
+        step.refused(refusal::GRANT_SUM) && step.was(|s| s.inbound == Ration::Endless)
     }),
     ("receive: Data of exactly the ration", |step| {
         step.data().is_some_and(|data| {
@@ -279,5 +292,19 @@ pub const CORNERS: [Corner; 38] = [
     (
         "lost line while a running session's far side is finished",
         |step| matches!(step.call, Call::Lost) && step.ok() && step.finished_by_far(),
+    ),
+    (
+        "violation 21: several bytes are wrong, the first is told",
+        |step| {
+            step.refused(refusal::RESERVED)
+                && step.begins(|start| wire::wrong_reserved_bytes(start).count() > 1)
+        },
+    ),
+    (
+        "violation 22: several bytes are wrong, the first is told",
+        |step| {
+            step.refused(refusal::BAD_HEADER)
+                && step.begins(|header| wire::wrong_header_bytes(header).count() > 1)
+        },
     ),
 ];

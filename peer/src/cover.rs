@@ -1,4 +1,4 @@
-//! Counts what scripts reach: calls, answers, refusals, messages, pairs of sides.
+//! Counts what scripts reach: calls, answers, refusals, places of violations, messages, pairs of sides.
 
 mod report;
 
@@ -6,7 +6,7 @@ use crate::corners::{Step, CORNERS};
 use crate::engine::{Phase, Taken};
 use crate::pick;
 use crate::play::{Player, Report};
-use crate::refusal;
+use crate::refusal::{self, Refusal, Violation};
 use crate::script::{Call, WORDS};
 use crate::session::{Ours, Outcome, Session, Theirs};
 use crate::wire::{Data, Message, Role, HEADER_LENGTH};
@@ -55,6 +55,7 @@ pub struct Cover {
     pub looks: u64,
     pub script_errors: u64,
     answers: Vec<[u64; ANSWERS]>,
+    violations: BTreeMap<Violation, u64>,
     received: BTreeMap<&'static str, u64>,
     sent: BTreeMap<&'static str, u64>,
     pairs: BTreeMap<Place, u64>,
@@ -71,6 +72,7 @@ impl Default for Cover {
             looks: 0,
             script_errors: 0,
             answers: vec![[0; ANSWERS]; WORDS.len()],
+            violations: BTreeMap::new(),
             received: BTreeMap::new(),
             sent: BTreeMap::new(),
             pairs: BTreeMap::new(),
@@ -152,15 +154,14 @@ impl Cover {
         player: &Player,
         call: &Call,
         before: Before,
-        answer: &Result<Report, u8>,
+        answer: &Result<Report, Refusal>,
     ) {
         if !call.is_engine_call() {
             self.looks += 1;
             return;
         }
         self.calls += 1;
-        let number = answer.err().unwrap_or(0);
-        self.answers[call.index()][usize::from(number)] += 1;
+        self.note_answer(call, answer);
         if before.messages {
             self.note_first_byte(call, answer);
         }
@@ -174,9 +175,19 @@ impl Cover {
         }
     }
 
+    /// Notes the number of a refusal, 0 for none, and the place of a violation.
+    fn note_answer(&mut self, call: &Call, answer: &Result<Report, Refusal>) {
+        let number = answer.err().map_or(0, Refusal::number);
+        self.answers[call.index()][usize::from(number)] += 1;
+        if let Err(Refusal::Violation(violation)) = answer {
+            *self.violations.entry(*violation).or_default() += 1;
+        }
+    }
+
     /// Notes the first byte of a message that came far enough to be looked at.
-    fn note_first_byte(&mut self, call: &Call, answer: &Result<Report, u8>) {
-        if let (Call::Receive { bytes, .. }, false) = (call, *answer == Err(refusal::ROOM)) {
+    fn note_first_byte(&mut self, call: &Call, answer: &Result<Report, Refusal>) {
+        let refused = *answer == Err(refusal::ROOM.into());
+        if let (Call::Receive { bytes, .. }, false) = (call, refused) {
             if let [first, _, _, _, ..] = bytes[..] {
                 self.first_bytes[usize::from(first)] += 1;
             }
@@ -184,7 +195,7 @@ impl Cover {
     }
 
     /// Notes what receive took.
-    fn note_received(&mut self, answer: &Result<Report, u8>) {
+    fn note_received(&mut self, answer: &Result<Report, Refusal>) {
         if let Ok(Report::Taken(taken)) = answer {
             let name = match taken {
                 Taken::Header(_) => "header",
@@ -213,7 +224,7 @@ impl Cover {
     }
 
     /// Notes the sides before and after the call.
-    fn note_place(&mut self, player: &Player, before: &Before, answer: &Result<Report, u8>) {
+    fn note_place(&mut self, player: &Player, before: &Before, answer: &Result<Report, Refusal>) {
         if let Some(place) = before.place {
             let cell = self.grid.entry((place, before.event)).or_default();
             match answer {

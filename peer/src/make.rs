@@ -8,9 +8,10 @@ mod end;
 mod joined;
 
 use crate::engine::{Phase, NUMBERS, QUEUE_LENGTH};
-use crate::noise;
+use crate::noise::{self, Wrong, WRONGS};
 use crate::pick;
 use crate::play::{Player, Report};
+use crate::refusal::Refusal;
 use crate::rng::Rng;
 use crate::script::{Call, First, LARGEST_QUEUE};
 use crate::session::SLOT;
@@ -30,6 +31,10 @@ const FIRST_BYTE_SEED: u64 = 1;
 /// One of this many seeds aims to end while a running session's far side is finished.
 const ANSWERED_EVERY: u64 = 32;
 const ANSWERED_SEED: u64 = 19;
+
+/// One of this many seeds is about wrong bytes; 512 seeds in a row have each of `WRONGS`.
+const WRONG_EVERY: u64 = 32;
+const WRONG_SEED: u64 = 7;
 
 /// Lengths of queues: none, around one slot, half of the right one, around the right one, the longest.
 const QUEUES: [u32; 10] = [
@@ -62,6 +67,8 @@ enum Plan {
     FirstByte(u8),
     /// A walk of a client until the far side of a running session is finished, then an end.
     Answered,
+    /// A header, or a message after a short walk, that is wrong at chosen places.
+    Wrong(Wrong),
     /// Lines at the edge of the script language, and past it.
     Lines,
 }
@@ -106,6 +113,7 @@ pub fn make(seed: u64, calls: u64) -> Vec<u8> {
         Plan::LongGrant => maker.long_grant(),
         Plan::FirstByte(first) => maker.first_byte(first),
         Plan::Answered => maker.answered(),
+        Plan::Wrong(wrong) => maker.wrong_bytes(wrong),
         Plan::Lines => maker.odd_lines(),
     }
     maker.end();
@@ -130,6 +138,10 @@ fn choose_plan(rng: &mut Rng, seed: u64) -> Plan {
     }
     if seed % ANSWERED_EVERY == ANSWERED_SEED {
         return Plan::Answered;
+    }
+    if seed % WRONG_EVERY == WRONG_SEED {
+        let next = seed / WRONG_EVERY % WRONGS.len() as u64;
+        return Plan::Wrong(WRONGS[next as usize]);
     }
     plan
 }
@@ -249,7 +261,7 @@ impl Maker {
     }
 
     /// Writes a call's line, runs it on the near end, and looks at times.
-    fn say(&mut self, call: &Call) -> Result<Report, u8> {
+    fn say(&mut self, call: &Call) -> Result<Report, Refusal> {
         let answer = self.say_only(call);
         if self.rng.percent(self.taste.looks) {
             self.look(call);
@@ -258,7 +270,7 @@ impl Maker {
     }
 
     /// Writes a call's line and runs it on the near end.
-    fn say_only(&mut self, call: &Call) -> Result<Report, u8> {
+    fn say_only(&mut self, call: &Call) -> Result<Report, Refusal> {
         call.write(&mut self.text);
         self.text.push(b'\n');
         if call.is_engine_call() {
@@ -302,7 +314,7 @@ impl Maker {
     }
 
     /// Gives bytes to the near end, with a room that fits or not.
-    fn receive(&mut self, bytes: Vec<u8>) -> Result<Report, u8> {
+    fn receive(&mut self, bytes: Vec<u8>) -> Result<Report, Refusal> {
         let headers = match self.near.engine.phase {
             Phase::Up(_) => 0,
             _ => 35,

@@ -1,9 +1,13 @@
 //! Noise: messages, headers and script lines that are cut, damaged or out of place.
 
+mod wrong;
+
+pub use wrong::{wrong_header, wrong_message, Wrong, WRONGS};
+
 use crate::engine::Engine;
 use crate::pick;
 use crate::ration::Ration;
-use crate::refusal;
+use crate::refusal::Violation;
 use crate::rng::Rng;
 use crate::script::{self, Call};
 use crate::session::Session;
@@ -89,7 +93,7 @@ fn in_wrong_state(rng: &mut Rng, engine: &Engine, pool: &[u8]) -> Vec<u8> {
         let message = pick::session_message(rng, engine, pool);
         let bytes = pick::with_body(rng, &message);
         let answer = engine.clone().receive(&bytes, 12, &mut Vec::new());
-        if answer == Err(refusal::STATE) {
+        if answer == Err(Violation::STATE.into()) {
             return bytes;
         }
     }

@@ -2,6 +2,7 @@
 
 use crate::cover::Cover;
 use crate::engine::{Engine, Phase, Taken, QUEUE_LENGTH};
+use crate::refusal::Refusal;
 use crate::script::{self, Call, First, Line, Lines, Room, USUAL_ROOM};
 use crate::session::{Ours, Outcome, Session, SLOT};
 use std::io::{self, BufRead, Write};
@@ -38,7 +39,7 @@ impl Player {
     }
 
     /// Runs a call on the engine; `state` and `queue` change and report nothing.
-    pub fn run(&mut self, call: &Call) -> Result<Report, u8> {
+    pub fn run(&mut self, call: &Call) -> Result<Report, Refusal> {
         self.written.clear();
         let engine = &mut self.engine;
         let out = &mut self.written;
@@ -67,7 +68,7 @@ impl Player {
     }
 
     /// Prints the line or lines of a call that was just run.
-    pub fn print(&self, call: &Call, answer: &Result<Report, u8>, text: &mut Vec<u8>) {
+    pub fn print(&self, call: &Call, answer: &Result<Report, Refusal>, text: &mut Vec<u8>) {
         let printed = match call {
             Call::State => self.print_state(text),
             Call::Queue { id } => self.print_queue(*id, text),
@@ -80,12 +81,12 @@ impl Player {
     fn print_answer(
         &self,
         call: &Call,
-        answer: &Result<Report, u8>,
+        answer: &Result<Report, Refusal>,
         text: &mut Vec<u8>,
     ) -> io::Result<()> {
         text.extend_from_slice(call.word().as_bytes());
         match answer {
-            Err(number) => write!(text, " refused {number}")?,
+            Err(refusal) => write!(text, " refused {refusal}")?,
             Ok(Report::Nothing) => text.extend_from_slice(b" ok"),
             Ok(Report::Turn(id)) => write!(text, " ok id {id}")?,
             Ok(Report::Taken(taken)) => print_taken(taken, text)?,

@@ -1,4 +1,6 @@
-//! The numbers of refusals and violations of docs/PROTOCOL.md, each under a plain name.
+//! Refusals and violations: the numbers of docs/PROTOCOL.md, each under a plain name, and a violation's place.
+
+use std::fmt;
 
 pub const NOT_UP: u8 = 1;
 pub const OVER: u8 = 2;
@@ -25,6 +27,75 @@ pub const PINGACK: u8 = 28;
 
 /// From this number up a refusal is a protocol violation and makes the connection over.
 pub const FIRST_VIOLATION: u8 = 20;
+
+/// A protocol violation: its number, and the place of the byte at fault in the message or header, from 0.
+///
+/// A message can have 65,539 bytes, so a place does not always fit a byte.
+#[derive(Clone, Copy, Debug, PartialEq, Eq, PartialOrd, Ord)]
+pub struct Violation {
+    pub number: u8,
+    pub place: u32,
+}
+
+/// The violations that always have the same place: that of the first byte, which tells type and flags, that of
+/// the session number, or that of the high byte of the length, increment or cookie.
+impl Violation {
+    pub const FIRST_BYTE: Violation = Violation::new(FIRST_BYTE, 0);
+    pub const SENDER: Violation = Violation::new(SENDER, 0);
+    pub const FLAGS: Violation = Violation::new(FLAGS, 0);
+    pub const STATE: Violation = Violation::new(STATE, 1);
+    pub const INBOUND: Violation = Violation::new(INBOUND, 2);
+    pub const OUTBOUND: Violation = Violation::new(OUTBOUND, 2);
+    pub const PINGACK: Violation = Violation::new(PINGACK, 2);
+
+    /// Gives the violation of this number at this place.
+    pub const fn new(number: u8, place: u32) -> Violation {
+        Violation { number, place }
+    }
+}
+
+/// Why a call is refused.
+#[derive(Clone, Copy, Debug, PartialEq, Eq)]
+pub enum Refusal {
+    /// A number below 20; it has no place, and nothing changes.
+    Plain(u8),
+    /// A number from 20 up, with its place; only receive finds one.
+    Violation(Violation),
+}
+
+impl Refusal {
+    /// Gives the number of the refusal.
+    pub fn number(self) -> u8 {
+        match self {
+            Refusal::Plain(number) => number,
+            Refusal::Violation(violation) => violation.number,
+        }
+    }
+}
+
+impl From<u8> for Refusal {
+    /// Makes a refusal of a number below 20.
+    fn from(number: u8) -> Refusal {
+        debug_assert!(number < FIRST_VIOLATION, "{number} has a place");
+        Refusal::Plain(number)
+    }
+}
+
+impl From<Violation> for Refusal {
+    fn from(violation: Violation) -> Refusal {
+        Refusal::Violation(violation)
+    }
+}
+
+impl fmt::Display for Refusal {
+    /// Writes what docs/SCRIPTS.md prints after `refused`.
+    fn fmt(&self, f: &mut fmt::Formatter<'_>) -> fmt::Result {
+        match self {
+            Refusal::Plain(number) => write!(f, "{number}"),
+            Refusal::Violation(Violation { number, place }) => write!(f, "{number} at {place}"),
+        }
+    }
+}
 
 /// Every number of a refusal or violation of docs/PROTOCOL.md, with its meaning in a few words.
 pub const ALL: [(u8, &str); 22] = [
@@ -76,3 +147,40 @@ pub const BY_CALL: [&[u8]; 12] = [
         INBOUND, OUTBOUND, PINGACK,
     ],
 ];
+
+/// Every violation's number with the places that it can have.
+pub const PLACES: [(u8, &[u32]); 9] = [
+    (FIRST_BYTE, &[0]),
+    (RESERVED, &[1, 2, 3]),
+    (BAD_HEADER, &[0, 1, 2, 3, 4, 7]),
+    (SENDER, &[0]),
+    (FLAGS, &[0]),
+    (STATE, &[1]),
+    (INBOUND, &[2]),
+    (OUTBOUND, &[2]),
+    (PINGACK, &[2]),
+];
+
+#[cfg(test)]
+mod tests {
+    use super::*;
+
+    #[test]
+    fn only_violations_are_written_with_a_place() {
+        assert_eq!(Refusal::from(INCOMPLETE).to_string(), "10");
+        assert_eq!(Refusal::from(Violation::INBOUND).to_string(), "26 at 2");
+    }
+
+    #[test]
+    fn a_place_can_be_that_of_the_last_byte_of_the_longest_message() {
+        let violation = Violation::new(RESERVED, 65_538);
+        assert_eq!(Refusal::from(violation).to_string(), "21 at 65538");
+    }
+
+    #[test]
+    fn every_violation_has_places_and_no_other_refusal_has() {
+        let numbers = ALL.iter().map(|(number, _)| *number);
+        let violations = numbers.filter(|number| *number >= FIRST_VIOLATION);
+        assert!(violations.eq(PLACES.iter().map(|(number, _)| *number)));
+    }
+}

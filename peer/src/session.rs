@@ -1,7 +1,7 @@
 //! One session number, seen from one end: its two sides, its rations, its fate.
 
 use crate::ration::Ration;
-use crate::refusal;
+use crate::refusal::Violation;
 use crate::wire::{effective, Data, Message, Role};
 
 /// The most bytes that may wait in one number's slot of the queue.
@@ -224,10 +224,15 @@ impl Session {
     }
 
     /// Takes a session message from the far side, or gives 25, 26 or 27 and changes nothing.
-    pub fn take(&mut self, role: Role, message: &Message, starts: Starts) -> Result<Effect, u8> {
+    pub fn take(
+        &mut self,
+        role: Role,
+        message: &Message,
+        starts: Starts,
+    ) -> Result<Effect, Violation> {
         match *message {
             Message::Data(data) if data.open => self.take_open(data, starts),
-            _ if !self.far_established() => Err(refusal::STATE),
+            _ if !self.far_established() => Err(Violation::STATE),
             Message::Data(data) => self.take_data(role, data),
             Message::Close { .. } => self.take_close(role),
             Message::Abort { partial, .. } => Ok(self.take_abort(role, partial)),
@@ -244,9 +249,9 @@ impl Session {
     }
 
     /// Takes an open Data message: a new session, whose length is spent at once.
-    fn take_open(&mut self, data: Data, starts: Starts) -> Result<Effect, u8> {
+    fn take_open(&mut self, data: Data, starts: Starts) -> Result<Effect, Violation> {
         if !self.may_be_opened() {
-            return Err(refusal::STATE);
+            return Err(Violation::STATE);
         }
         let inbound = spend(starts.inbound, data.length)?;
         self.begin(Starts { inbound, ..starts });
@@ -257,9 +262,9 @@ impl Session {
     }
 
     /// Takes Data without open; where our side is ended it is late and not counted.
-    fn take_data(&mut self, role: Role, data: Data) -> Result<Effect, u8> {
+    fn take_data(&mut self, role: Role, data: Data) -> Result<Effect, Violation> {
         if self.theirs == Theirs::Finished {
-            return Err(refusal::STATE);
+            return Err(Violation::STATE);
         }
         let late = self.ours == Ours::Ended;
         if !late {
@@ -273,9 +278,9 @@ impl Session {
     }
 
     /// Takes a Close, which only a finished side may send.
-    fn take_close(&mut self, role: Role) -> Result<Effect, u8> {
+    fn take_close(&mut self, role: Role) -> Result<Effect, Violation> {
         if self.theirs != Theirs::Finished {
-            return Err(refusal::STATE);
+            return Err(Violation::STATE);
         }
         let reply_abort = self.closed_by_server(role);
         Ok(Effect {
@@ -311,16 +316,16 @@ impl Session {
     }
 
     /// Adds to the outbound ration; where our side sends no more it is late.
-    fn take_increment(&mut self, amount: u32) -> Result<Effect, u8> {
+    fn take_increment(&mut self, amount: u32) -> Result<Effect, Violation> {
         if self.ours != Ours::Open {
             return Ok(LATE);
         }
-        self.outbound = self.outbound.grow(amount).ok_or(refusal::OUTBOUND)?;
+        self.outbound = self.outbound.grow(amount).ok_or(Violation::OUTBOUND)?;
         Ok(PLAIN)
     }
 }
 
 /// Gives the ration less the length, or 26.
-fn spend(ration: Ration, length: u16) -> Result<Ration, u8> {
-    ration.spend(u32::from(length)).ok_or(refusal::INBOUND)
+fn spend(ration: Ration, length: u16) -> Result<Ration, Violation> {
+    ration.spend(u32::from(length)).ok_or(Violation::INBOUND)
 }

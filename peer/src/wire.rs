@@ -1,6 +1,6 @@
 //! Messages and connection headers, to and from bytes.
 
-use crate::refusal;
+use crate::refusal::{self, Refusal, Violation};
 use std::fmt;
 
 /// The end of the connection that one is, or that a message comes from.
@@ -53,15 +53,26 @@ pub fn write_header(number: u16) -> [u8; HEADER_LENGTH] {
     [j, m, u, x, version, high, low, 0]
 }
 
-/// Reads a connection header: its number, or 10 if it is cut, or 22 if it is bad.
-pub fn read_header(bytes: &[u8]) -> Result<u16, u8> {
-    let Some(header) = bytes.get(..HEADER_LENGTH) else {
-        return Err(refusal::INCOMPLETE);
-    };
-    if header[..5] != MAGIC_AND_VERSION || header[7] != 0 {
-        return Err(refusal::BAD_HEADER);
+/// Reads a connection header: its number, or 10 if it is cut, or 22 with the first wrong byte's place.
+pub fn read_header(bytes: &[u8]) -> Result<u16, Refusal> {
+    let header = *bytes.first_chunk().ok_or(refusal::INCOMPLETE)?;
+    match wrong_header_bytes(header).next() {
+        Some(place) => Err(Violation::new(refusal::BAD_HEADER, place).into()),
+        None => Ok(header_number(header)),
     }
-    Ok(u16::from_be_bytes([header[5], header[6]]))
+}
+
+/// Gives the header number of a connection header, good or bad.
+fn header_number(header: [u8; HEADER_LENGTH]) -> u16 {
+    u16::from_be_bytes([header[5], header[6]])
+}
+
+/// Gives the places of a connection header's wrong bytes, in order: those that differ from the right header with
+/// the same number, so that a byte of the number is never wrong.
+pub fn wrong_header_bytes(header: [u8; HEADER_LENGTH]) -> impl Iterator<Item = u32> {
+    let right = write_header(header_number(header));
+    let pairs = header.into_iter().zip(right);
+    places_where(pairs.map(|(byte, right)| byte != right))
 }
 
 /// The fields of a Data message.
@@ -92,29 +103,25 @@ pub enum Message {
 
 impl Message {
     /// Reads the message that begins the bytes, or gives 10, 20, 21, 23 or 24.
-    pub fn read(bytes: &[u8], sender: Role) -> Result<Message, u8> {
-        let Some(start) = bytes.get(..MESSAGE_START) else {
-            return Err(refusal::INCOMPLETE);
-        };
-        let message = Message::from_start([start[0], start[1], start[2], start[3]])?;
+    pub fn read(bytes: &[u8], sender: Role) -> Result<Message, Refusal> {
+        let start = *bytes.first_chunk().ok_or(refusal::INCOMPLETE)?;
+        let message = Message::from_start(start)?;
         message.check_sender(sender)?;
         message.check_flags(sender)?;
         if bytes.len() < message.size() {
-            return Err(refusal::INCOMPLETE);
+            return Err(refusal::INCOMPLETE.into());
         }
         Ok(message)
     }
 
     /// Reads the first four bytes alone, or gives 20 or 21.
-    fn from_start(start: [u8; 4]) -> Result<Message, u8> {
+    fn from_start(start: [u8; MESSAGE_START]) -> Result<Message, Violation> {
         let [first, id, high, low] = start;
         let number = u16::from_be_bytes([high, low]);
-        let message = Message::from_parts(first, id, number).ok_or(refusal::FIRST_BYTE)?;
-        // What the value keeps is all that is not reserved.
-        if message.start() == start && id <= LARGEST_ID {
-            Ok(message)
-        } else {
-            Err(refusal::RESERVED)
+        let message = Message::from_parts(first, id, number).ok_or(Violation::FIRST_BYTE)?;
+        match wrong_reserved_bytes(start).next() {
+            Some(place) => Err(Violation::new(refusal::RESERVED, place)),
+            None => Ok(message),
         }
     }
 
@@ -151,27 +158,27 @@ impl Message {
     }
 
     /// Refuses with 23 a type that this sender must not send.
-    fn check_sender(&self, sender: Role) -> Result<(), u8> {
+    fn check_sender(&self, sender: Role) -> Result<(), Violation> {
         let wrong = match self {
             Message::Shutdown { .. } | Message::Close { .. } => sender == Role::Client,
             Message::Acknowledgment { .. } => sender == Role::Server,
             _ => false,
         };
         if wrong {
-            return Err(refusal::SENDER);
+            return Err(Violation::SENDER);
         }
         Ok(())
     }
 
     /// Refuses with 24 flags that this sender must not set, or not together.
-    fn check_flags(&self, sender: Role) -> Result<(), u8> {
+    fn check_flags(&self, sender: Role) -> Result<(), Violation> {
         let wrong = match self {
             Message::Abort { partial, .. } => *partial && sender == Role::Client,
             Message::Data(data) => data.flags_wrong(sender),
             _ => false,
         };
         if wrong {
-            return Err(refusal::FLAGS);
+            return Err(Violation::FLAGS);
         }
         Ok(())
     }
@@ -230,6 +237,32 @@ impl Message {
             _ => None,
         }
     }
+}
+
+/// Gives the reserved bits of each of the four bytes that begin a message of this type.
+///
+/// Those of the first byte are left out: a first byte with one of them set is of no type.
+fn reserved_bits(first: u8) -> [u8; MESSAGE_START] {
+    match first {
+        // The connection's messages, which have no session number.
+        0x00..=0x0F => [0, 0xFF, 0, 0],
+        // Close and Acknowledgment, which have no 16-bit number.
+        0x30 | 0x40 => [0, 0x80, 0xFF, 0xFF],
+        _ => [0, 0x80, 0, 0],
+    }
+}
+
+/// Gives the places of the bytes with a wrong reserved bit, in order.
+pub fn wrong_reserved_bytes(start: [u8; MESSAGE_START]) -> impl Iterator<Item = u32> {
+    let masks = reserved_bits(start[0]);
+    let pairs = start.into_iter().zip(masks);
+    places_where(pairs.map(|(byte, mask)| byte & mask != 0))
+}
+
+/// Gives the places at which the answers are true, in order and from 0.
+fn places_where(answers: impl Iterator<Item = bool>) -> impl Iterator<Item = u32> {
+    let pairs = (0..).zip(answers);
+    pairs.filter_map(|(place, answer)| answer.then_some(place))
 }
 
 /// Gives the effective increment: the number shifted left by twice the shift.

@@ -41,12 +41,12 @@ fn case_1_bad_headers() {
     let lines = play(&["server 4", "receive 4a6d757802000400", "state", "lost"]);
     assert_eq!(
         lines[0],
-        "receive refused 22 wrote 4a6d75780100040008000000"
+        "receive refused 22 at 4 wrote 4a6d75780100040008000000"
     );
     assert_eq!(lines[1], "connection server fresh over last 127 ping none");
     assert_eq!(lines[2], "lost refused 2");
     let lines = play(&["client 4", "start", "receive 4a6d757802000400", "state"]);
-    assert_eq!(lines[1], "receive refused 22 wrote 08000000");
+    assert_eq!(lines[1], "receive refused 22 at 4 wrote 08000000");
     assert_eq!(
         lines[2],
         "connection client started over last 127 ping none"
@@ -77,15 +77,15 @@ fn case_3_messages() {
     );
     assert_eq!(
         with("receive 01000000"),
-        "receive refused 20 wrote 08000000"
+        "receive refused 20 at 0 wrote 08000000"
     );
     assert_eq!(
         with("receive 04800000"),
-        "receive refused 21 wrote 08000000"
+        "receive refused 21 at 1 wrote 08000000"
     );
     assert_eq!(
         last(server(4, &["receive 90070000", "receive 22070000"])),
-        "receive refused 24 wrote 08000000"
+        "receive refused 24 at 0 wrote 08000000"
     );
 }
 
@@ -105,11 +105,11 @@ fn case_4_inbound_ration() {
         lines[4],
         "session 0 open open outcome none out 1024 in 0 waiting 0"
     );
-    assert_eq!(lines[5], "receive refused 26 wrote 08000000");
+    assert_eq!(lines[5], "receive refused 26 at 2 wrote 08000000");
     let too_long = data("9000", 257);
     assert_eq!(
         last(server(1, &[&too_long])),
-        "receive refused 26 wrote 08000000"
+        "receive refused 26 at 2 wrote 08000000"
     );
 }
 
@@ -136,7 +136,7 @@ fn case_5_outbound_ration() {
     assert!(last(full).contains("out 2147483647 "));
     assert_eq!(
         last(with(&["receive 10000288"])),
-        "receive refused 27 wrote 08000000"
+        "receive refused 27 at 2 wrote 08000000"
     );
 }
 
@@ -177,12 +177,15 @@ fn case_8_ping() {
     assert_eq!(lines[1], "ping refused 13");
     assert_eq!(lines[2], "receive ok pingack cookie 9 used 4");
     assert_eq!(lines[3], "connection client up 4 last 127 ping none");
-    for (bad, number) in [("receive 06000008", 28), ("receive 06010009", 21)] {
+    for (bad, refusal) in [
+        ("receive 06000008", "28 at 2"),
+        ("receive 06010009", "21 at 1"),
+    ] {
         let answer = last(client(4, &["ping 9", bad]));
-        assert_eq!(answer, format!("receive refused {number} wrote 08000000"));
+        assert_eq!(answer, format!("receive refused {refusal} wrote 08000000"));
     }
     assert_eq!(
         last(client(4, &["receive 06000000"])),
-        "receive refused 28 wrote 08000000"
+        "receive refused 28 at 2 wrote 08000000"
     );
 }

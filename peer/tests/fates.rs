@@ -153,7 +153,7 @@ fn servers_have_no_fates() {
 #[test]
 fn an_error_before_the_headers_is_a_bad_header() {
     let lines = play(&["client 4", "start", "receive 0800000000000000", "state"]);
-    assert_eq!(lines[1], "receive refused 22 wrote 08000000");
+    assert_eq!(lines[1], "receive refused 22 at 0 wrote 08000000");
     assert_eq!(
         lines[2],
         "connection client started over last 127 ping none"

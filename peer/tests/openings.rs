@@ -190,6 +190,6 @@ fn a_server_of_header_number_1_takes_both_parts() {
     assert_eq!(answers[4], "receive ok data id 5 eof length 256 used 260");
     assert_eq!(
         last(server(1, &[&first, &rest])),
-        "receive refused 26 wrote 08000000"
+        "receive refused 26 at 2 wrote 08000000"
     );
 }

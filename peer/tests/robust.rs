@@ -65,6 +65,25 @@ fn first_messages_are_often_cut() {
     assert!(times.iter().all(|&times| times >= 30), "{times:?}");
 }
 
+/// Wherever 512 seeds begin, they reach each place of 21 and 22, and several wrong bytes of both.
+#[test]
+fn any_512_seeds_reach_the_places_of_wrong_bytes() {
+    let about = ["refused 21 at", "refused 22 at", "the first is told"];
+    for start in [1, 40, 777, 16_385, 1 << 40] {
+        let mut missing = compare::cover(start..start + 512, USUAL_CALLS).missing();
+        missing.retain(|item| about.iter().any(|text| item.contains(text)));
+        assert_eq!(missing, Vec::<String>::new(), "from seed {start}");
+    }
+}
+
+/// Chance brings several wrong bytes at once, of messages and of headers, and not just once.
+#[test]
+fn several_wrong_bytes_are_often_met() {
+    let times = corners_with("several bytes are wrong");
+    assert_eq!(times.len(), 2);
+    assert!(times.iter().all(|&times| times >= 10), "{times:?}");
+}
+
 #[test]
 fn scripts_keep_to_their_number_of_calls() {
     for seed in 0..200 {

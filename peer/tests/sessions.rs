@@ -26,7 +26,7 @@ fn late_data_is_no_violation() {
         "receive ok increment id 5 shift 0 increment 1 late used 4"
     );
     assert_eq!(lines[5], "receive ok ack id 5 used 4");
-    assert_eq!(lines[6], "receive refused 25 wrote 08000000");
+    assert_eq!(lines[6], "receive refused 25 at 1 wrote 08000000");
 }
 
 #[test]
@@ -139,7 +139,7 @@ fn server_reuse_of_numbers() {
         4,
         &["receive 94050000", "finish 5", "turn", "receive 90050000"],
     );
-    assert_eq!(last(lines), "receive refused 25 wrote 08000000");
+    assert_eq!(last(lines), "receive refused 25 at 1 wrote 08000000");
     let lines = server(
         4,
         &[
@@ -165,7 +165,7 @@ fn an_open_is_never_late() {
         4,
         &["receive 90050000", "abort 5 whole", "receive 90050000"],
     );
-    assert_eq!(last(lines), "receive refused 25 wrote 08000000");
+    assert_eq!(last(lines), "receive refused 25 at 1 wrote 08000000");
 }
 
 #[test]
@@ -174,12 +174,15 @@ fn messages_in_the_wrong_state() {
         let receive = format!("receive {message}");
         for before in [&[][..], &["open 5"][..]] {
             let lines = [before, &[receive.as_str()]].concat();
-            assert_eq!(last(client(4, &lines)), "receive refused 25 wrote 08000000");
+            assert_eq!(
+                last(client(4, &lines)),
+                "receive refused 25 at 1 wrote 08000000"
+            );
         }
     }
     assert_eq!(
         last(client(4, &["open 5", "turn", "receive 30050000"])),
-        "receive refused 25 wrote 08000000"
+        "receive refused 25 at 1 wrote 08000000"
     );
 }
 

@@ -4,6 +4,7 @@ use lib.Ieee.{add, sub, mul, div, lt, le, ofInt}
 use Rattle.laws.specs.Pick.{pick}
 use Rattle.ration.specs.Ration.{fromHeader}
 use Rattle.wire.specs.FirstByte.{kindOf}
+use Rattle.wire.specs.Layout.{firstWrong}
 use Rattle.wire.specs.Message.{readMessage, parseHeader, typed, allowed, effectiveIncrement}
 use Rattle.wire.specs.Connection.{readConnectionHeader, parseConnectionHeader}
 use Rattle.protocol.specs.Plan.{settle}
@@ -24,7 +25,7 @@ pub _and_ : {A B : Type 0} → A → B → A × B
 a and b = (a, b)
 
 pub every-row : All rowHolds caseTable
-unfolding pick fromHeader kindOf readMessage parseHeader typed allowed effectiveIncrement readConnectionHeader parseConnectionHeader settle
+unfolding pick fromHeader kindOf firstWrong readMessage parseHeader typed allowed effectiveIncrement readConnectionHeader parseConnectionHeader settle
     wellFormed allFormed sessionFormed receipt judge receiveRule bytesOfAll receiveCall
     limitsAfter newClock first later updated goodClock sampleRule goodSetting measured limitRule wholeNumber 0·75 0·25 0·875 0·125 ofInt add sub mul div lt le
     connectionAfter rowHolds All

@@ -2,13 +2,14 @@
 use mathlib.Core.Path.{refl}
 use Rattle.laws.specs.Pick.{pick}
 use Rattle.wire.specs.FirstByte.{kindOf}
+use Rattle.wire.specs.Layout.{firstWrong}
 use Rattle.wire.specs.Message.{readMessage, parseHeader, typed, allowed}
 use Rattle.bench.specs.Row.{rowHolds, All}
 use Rattle.bench.specs.Senders.{senderTable}
 use Rattle.bench.proofs.Rows.{_and_}
 
 pub every-sender-row : All rowHolds senderTable
-unfolding pick kindOf readMessage parseHeader typed allowed rowHolds All
+unfolding pick kindOf firstWrong readMessage parseHeader typed allowed rowHolds All
 every-sender-row =
     -- the ten types
     (λ from. refl) and refl and refl and (λ from. refl) and (λ from. refl) and (λ from. refl) and (λ from. refl) and (λ from. refl) and refl and refl and refl and refl and (λ from. refl)

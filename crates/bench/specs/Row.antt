@@ -36,7 +36,7 @@ pub record Came : Type 0 where
   pub ration : Ration
   pub over : Bool
 
--- `Result` carries a refusal or a violation by its number
+-- `Result` carries a refusal by its number, and a violation by its number and place
 pub data CaseRow : Type 0 where
   -- a connection header, and the starting ration that it grants
   header-case : (bytes : List ℕ) → Result Ration → CaseRow
@@ -54,13 +54,13 @@ pub data CaseRow : Type 0 where
 abbrev pub granted : Result ℕ → Result Ration
 granted (ok number) = ok (fromHeader number)
 granted (refused n) = refused n
-granted (violation n) = violation n
+granted (violation f) = violation f
 
 -- a message that is read, with the bytes of its body, which follow its header
 abbrev pub followed : List ℕ → Result Message → Result (Message × List ℕ)
 followed bytes (ok m) = ok (m, take (bodyLength m) (drop 4 bytes))
 followed bytes (refused n) = refused n
-followed bytes (violation n) = violation n
+followed bytes (violation f) = violation f
 
 -- ---- receives
 

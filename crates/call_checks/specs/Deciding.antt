@@ -11,7 +11,7 @@ use Rattle.call_checks.specs.Gate.{toGate, behind}
 abbrev pub decision : (Taken → Effect) → Result Taken → Decision
 decision effect (ok t) = accept (effect t)
 decision effect (refused k) = refuse k
-decision effect (violation k) = refuse k
+decision effect (violation f) = refuse (f .number)
 
 -- the step counts if the checks before it pass
 abbrev pub afterChecks : Plan Unit → (Taken → Effect) → Result Taken → Decision
@@ -21,4 +21,4 @@ afterChecks p effect r = behind (toGate p) refuse (decision effect r)
 abbrev pub Quiet : Result Taken → Type 0
 Quiet (ok t) = t .sent ≡ []
 Quiet (refused k) = Unit {0}
-Quiet (violation k) = Unit {0}
+Quiet (violation f) = Unit {0}

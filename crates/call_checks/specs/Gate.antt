@@ -19,10 +19,10 @@ abbrev pub further : Result Unit → Bool → ℕ → Result Unit
 further (ok u) true n = refused n
 further (ok u) false n = ok u
 further (refused m) fails n = refused m
-further (violation m) fails n = violation m
+further (violation f) fails n = violation f
 
 -- the result of a rule behind a gate
 abbrev pub behind : {B : Type 0} → Result Unit → (ℕ → B) → B → B
 behind (ok u) bad rest = rest
 behind (refused n) bad rest = bad n
-behind (violation n) bad rest = bad n
+behind (violation f) bad rest = bad (f .number)

@@ -45,7 +45,7 @@ fn take_header(c: Connection, role: Role, header: ReadHeader) -> Judged
             }
         }
         ReadHeader::Incomplete => incomplete(c),
-        ReadHeader::Violated(violation) => violated(c, violation),
+        ReadHeader::Violated(fault) => violated(c, fault),
     }
 }
 
@@ -56,7 +56,7 @@ fn take_message(c: Connection, message: Read) -> Judged
     match message {
         Read::Message(m) => judge(c, m),
         Read::Incomplete => incomplete(c),
-        Read::Violated(violation) => violated(c, violation),
+        Read::Violated(fault) => violated(c, fault),
     }
 }
 

@@ -5,6 +5,7 @@ use Prim.Native.Nat.{ℕ, zero, suc, _+_, _-_, _/_, _≤_, _<_}
 use native.Mathlib.Omega.{arith}
 use Rattle.laws.specs.Pick.{pick}
 use Rattle.laws.specs.Circle.{following}
+use Rattle.laws.proofs.Circle.{following-lt}
 use Rattle.call_search.specs.declared.Found.{Found}
 use Rattle.call_search.specs.declared.Found.the-variants as found
 use Rattle.call_search.specs.Flags.{firstFound, nearestFound}
@@ -25,10 +26,6 @@ or-pick : (b : Bool) (n : ℕ) (x y : Found) → pick b (found.At n) (orElse x y
 unfolding pick
 or-pick true n x y = refl
 or-pick false n x y = refl
-
-pub following-lt : (i : ℕ) → following i < 128
-unfolding following
-following-lt i = omega arith
 
 below-127 : (i : ℕ) → i < 127 → following i ≡ suc i
 unfolding following

@@ -18,7 +18,7 @@ withServed c n x = withLast n (withSession n x c)
 abbrev pub Shrinks : ℕ → Result Taken → Type 0
 Shrinks waiting (ok t) = t .session .waiting ≤ waiting
 Shrinks waiting (refused k) = Unit {0}
-Shrinks waiting (violation k) = Unit {0}
+Shrinks waiting (violation f) = Unit {0}
 
 abbrev pub turnGives : Connection → List ℕ → List ℕ → Decision → Given × List ℕ × List ℕ
 turnGives c queue room d =

@@ -5,7 +5,7 @@ use lib.ListN.{length, drop}
 use lib.Dec.{ltb}
 use Rattle.laws.specs.Pick.{pick}
 use Rattle.laws.specs.Result.{Result, ok, refused, violation}
-use Rattle.refusal.specs.Number.{refusalNumber, violationNumber}
+use Rattle.refusal.specs.Number.{refusalNumber, faultAs}
 use Rattle.wire.specs.declared.Role.{Role}
 use Rattle.wire.specs.declared.Message.{Message}
 use Rattle.wire.specs.Message.{bodyLength, readMessage}
@@ -21,7 +21,7 @@ messageAt from capture place = pick (ltb (length capture) place) (refused 14) (r
 abbrev pub placeAfter : ℕ → Result Message → ℕ
 placeAfter place (ok m) = place + 4 + bodyLength m
 placeAfter place (refused n) = place
-placeAfter place (violation n) = place
+placeAfter place (violation f) = place
 
 -- what is at a place, and the place to read on from
 unfoldable pub stepAt : Role → List ℕ → ℕ → Result Message × ℕ
@@ -31,7 +31,7 @@ stepAt from capture place = (messageAt from capture place, placeAfter place (mes
 abbrev pub nextAs : Next → Result Message
 nextAs (next.Message m) = ok m
 nextAs (next.Refused r) = refused (refusalNumber r)
-nextAs (next.Violated v) = violation (violationNumber v)
+nextAs (next.Violated f) = violation (faultAs f)
 
 abbrev pub stepAs : Step → Result Message × ℕ
 stepAs s = (nextAs (s .next), s .place)

@@ -33,7 +33,7 @@ wholeAt capture place m = record { message = m; body = take (bodyLength m) (drop
 abbrev pub prepended : List ℕ → ℕ → Result Message → MessagesRead → MessagesRead
 prepended capture place (ok m) rest = record { messages = wholeAt capture place m ∷ rest .messages; end = rest .end }
 prepended capture place (refused n) rest = record { messages = []; end = place }
-prepended capture place (violation n) rest = record { messages = []; end = place }
+prepended capture place (violation f) rest = record { messages = []; end = place }
 
 -- reading from a place: no message past a refusal, and at most this many messages
 unfoldable pub readUpTo : ℕ → Role → List ℕ → ℕ → MessagesRead

@@ -46,7 +46,7 @@ fn step_of(read: Read, place: usize) -> Step
     match read {
         Read::Message(message) => after(message, place),
         Read::Incomplete => kept(Next::Refused(Refusal::Incomplete), place),
-        Read::Violated(violation) => kept(Next::Violated(violation), place),
+        Read::Violated(fault) => kept(Next::Violated(fault), place),
     }
 }
 

@@ -16,7 +16,7 @@ use Rattle.protocol.specs.Message.{no-operation-of, shutdown-of, error-of, ping
 use Rattle.state.specs.New.{blank}
 use Rattle.protocol.specs.Receipt as rule
 use Rattle.protocol.specs.Connection.{shutdown-received, error-received, at, roleOf, ownStart, farStart, ended}
-use Rattle.protocol.specs.Judge.{Report, message, Output, sent, Effect, accept, unchanged, setting-ping, setting-session, breach, commit, matches, judgeScope, judge}
+use Rattle.protocol.specs.Judge.{Report, message, Output, sent, Effect, accept, unchanged, setting-ping, setting-session, breachOf, commit, matches, judgeScope, judge}
 use Rattle.session.specs.declared.Taken.{Taken}
 use Rattle.session.specs.Step.{sentAs}
 use Rattle.session_receive.specs.declared.Receipt.{Receipt}
@@ -67,9 +67,9 @@ module _ (c : Connection) where
     answered = setting-ping c ping.None (message (msg.PingAck k) false) []
 
     by-match : {b : Bool} → matches (c .ping) k ≡ b
-        → verdict c (settle (breach c) accept (check (not b) 28 (take answered))) ≡ verdict c (judgeScope c (msg.PingAck k) (whole (ping-ack-of k)))
+        → verdict c (settle (breachOf c) accept (check (not b) 28 (take answered))) ≡ verdict c (judgeScope c (msg.PingAck k) (whole (ping-ack-of k)))
     unfolding answered
-    by-match e = sym (ap (λ (t : Bool). verdict c (settle (breach c) accept (check (not t) 28 (take answered)))) e)
+    by-match e = sym (ap (λ (t : Bool). verdict c (settle (breachOf c) accept (check (not t) 28 (take answered)))) e)
 
     module _ {v : Verdict} where
       pub acknowledged : {next : Connection} → matches (c .ping) k ≡ true → next ≡ withPing ping.None c
@@ -80,7 +80,7 @@ module _ (c : Connection) where
           ∙ ap (λ (x : Connection). took x (msg.PingAck k) false []) (q ∙ sets-ping c (message (msg.PingAck k) false) [] ping.None)
           ∙ by-match e
 
-      pub unasked : matches (c .ping) k ≡ false → v ≡ verdict c (breach c 28) → v ≡ verdict c (judgeScope c (msg.PingAck k) (whole (ping-ack-of k)))
+      pub unasked : matches (c .ping) k ≡ false → v ≡ verdict c (breachOf c 28) → v ≡ verdict c (judgeScope c (msg.PingAck k) (whole (ping-ack-of k)))
       unfolding settle
       unasked e h = h ∙ by-match e
 
@@ -88,7 +88,7 @@ module _ (c : Connection) where
 
   module _ (m : Message) (n : ℕ) where
     by-receipt : (p : Plan rule.Taken)
-        → judgedBy c m n (toReceipt p) ≡ settle (breach c) (λ t. accept (setting-session c n (c .last) (message m (t .late)) t)) p
+        → judgedBy c m n (toReceipt p) ≡ settle (breachOf c) (λ t. accept (setting-session c n (c .last) (message m (t .late)) t)) p
     unfolding settle
     by-receipt (stop k) = refl
     by-receipt (check true k p) = refl

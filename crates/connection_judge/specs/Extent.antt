@@ -8,4 +8,4 @@ use Rattle.connection_judge.specs.declared.Extent.{Extent}
 abbrev pub extentIn : Result Report → Extent
 extentIn (ok r) = record { used = extentOf r .used; start = extentOf r .start; end = extentOf r .end }
 extentIn (refused n) = record { used = 0; start = 0; end = 0 }
-extentIn (violation n) = record { used = 0; start = 0; end = 0 }
+extentIn (violation f) = record { used = 0; start = 0; end = 0 }

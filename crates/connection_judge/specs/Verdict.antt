@@ -19,7 +19,7 @@ pub record Verdict : Type 0 where
 -- the verdict that a decision gives
 abbrev pub verdict : Connection → Decision → Verdict
 verdict c (refuse n) = record { connection = c; answer = refused n; outs = [] }
-verdict c (violate b) = record { connection = ended (b .cause) c; answer = violation (b .code); outs = b .reply }
+verdict c (violate b) = record { connection = ended (b .cause) c; answer = violation (b .fault); outs = b .reply }
 verdict c (accept e) = record { connection = commit c e; answer = ok (e .report); outs = e .outs }
 
 abbrev pub repliesAs : Reply → List Output

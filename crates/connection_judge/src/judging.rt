@@ -1,5 +1,6 @@
 // What a received message does to the connection, and which reply it gets. No bytes are read or written here.
 use crate::Judged;
+use crate::verdicts::fault_of;
 use crate::verdicts::taken;
 use crate::verdicts::violated;
 use connection::Cause;
@@ -55,7 +56,7 @@ fn judge_ping_ack(c: Connection, cookie: u16) -> Judged
         let next = c.with_ping(Ping::None);
         return taken(next, Message::PingAck { cookie }, false, Outgoing::Nothing);
     }
-    violated(c, Violation::UnaskedPingAck)
+    violated(c, fault_of(Violation::UnaskedPingAck))
 }
 
 // The decision on a message, from the step of its session.
@@ -68,7 +69,7 @@ fn judge_receipt(c: Connection, m: Message, n: u8, receipt: Receipt) -> Judged
             let sent = t.sent;
             taken(with_session(c, n, x), m, t.late, of_session(n, sent))
         }
-        Receipt::Violated(violation) => violated(c, violation),
+        Receipt::Violated(violation) => violated(c, fault_of(violation)),
     }
 }
 

@@ -1,9 +1,10 @@
-// The decision of a receive before its reply is written, in three cases: incomplete input, a violation, a message taken.
+// The decision of a receive before its reply is written: incomplete input, a violation that the reader or a rule finds, a message taken.
 use crate::Judged;
 use crate::Reply;
 use connection::Cause;
 use connection::ended;
 use connection_output::Outgoing;
+use refusal::Fault;
 use refusal::Refusal;
 use refusal::Violation;
 use state::Answer;
@@ -12,8 +13,8 @@ use state::Stage;
 use wire::Message;
 ghost use mathlib.Core.Path.{_≡_};
 ghost use Rattle.laws.specs.Result.{ok};
-ghost use Rattle.refusal.specs.Number.{violationNumber};
-ghost use Rattle.protocol.specs.Judge.{message, refuse, errorAfter, breach};
+ghost use Rattle.refusal.specs.Number.{violationNumber, faultAs};
+ghost use Rattle.protocol.specs.Judge.{message, refuse, errorAfter, breach, faultOf};
 ghost use Rattle.connection_output.specs.Outgoing.{outsAs};
 ghost use Rattle.connection_judge.specs.Verdict.{repliesAs, verdictAs, verdict};
 
@@ -40,16 +41,32 @@ fn error_after(stage: Stage, own: u16) -> Reply
 }
 
 // A violation ends the connection as a lost line does.
-pub fn violated(c: Connection, violation: Violation) -> Judged
-    ensures { λ r. ⌜ verdictAs r ≡ verdict c (breach c (violationNumber violation)) ⌝ }
+pub fn violated(c: Connection, fault: Fault) -> Judged
+    ensures { λ r. ⌜ verdictAs r ≡ verdict c (breach c (faultAs fault)) ⌝ }
 {
     let stage = c.stage;
     let reply = error_after(stage, c.own);
     let next = ended(c, Cause::LineLost);
     Judged {
         connection: next,
-        answer: Answer::Violated(violation),
+        answer: Answer::Violated(fault),
         reply,
+    }
+}
+
+// A rule that a message breaks, with its place: the session number for 25; the length, the increment or the cookie for the others.
+pub(crate) fn fault_of(violation: Violation) -> Fault
+    ensures { λ r. ⌜ faultAs r ≡ faultOf (violationNumber violation) ⌝ }
+{
+    if violation.number() == 25 {
+        return Fault {
+            violation,
+            offset: 1,
+        };
+    }
+    Fault {
+        violation,
+        offset: 2,
     }
 }
 

@@ -13,6 +13,7 @@ pub use call_session::open_session;
 pub use call_slots::QUEUE_SIZE;
 pub use call_turn::turn;
 pub use ration::Ration;
+pub use refusal::Fault;
 pub use refusal::Refusal;
 pub use refusal::Violation;
 pub use session::SLOT_SIZE;

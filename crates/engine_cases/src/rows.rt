@@ -42,7 +42,10 @@ fn refusal_in(answer: Answer) -> u8 {
     match answer {
         Answer::Done | Answer::Served(_) | Answer::Header(_) | Answer::Message { .. } => 0,
         Answer::Refused(r) => r.number(),
-        Answer::Violated(v) => v.number(),
+        Answer::Violated(fault) => {
+            let v = fault.violation;
+            v.number()
+        }
     }
 }
 

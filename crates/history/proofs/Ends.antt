@@ -22,7 +22,7 @@ use Rattle.protocol.specs.Message.{ConnectionMessage, no-operation-of, shutdown
 use Rattle.protocol.specs.Receipt.{Taken, receipt}
 use Rattle.protocol.specs.Ask.{openAsk, putAsk, finishAsk, grantAsk, abortAsk, closeAsk, turnAsk}
 use Rattle.protocol.specs.Connection.{otherEnd, Cause, at, roleOf, ownStart, farStart, ended}
-use Rattle.protocol.specs.Judge.{Report, done, served, message, Ending, goes-on, ends, Effect, Decision, refuse, violate, accept, setting-session, continued, breach, judgeWhole, judgeScope, judge}
+use Rattle.protocol.specs.Judge.{Report, done, served, message, Ending, goes-on, ends, Effect, Decision, refuse, violate, accept, setting-session, continued, breachOf, judgeWhole, judgeScope, judge}
 use Rattle.protocol.specs.Call.{nextReady, headerTaken, messageTaken, reading, receiveGate, startRule, openRule, putRule, finishRule, turnRule, grantRule, abortRule, closeRule, pingRule, shutdownRule, lostRule, receiveRule}
 use Rattle.protocol.proofs.Plans.{settled, stops-all, Takes, takes-then, takes-all}
 use Rattle.history.specs.Log.{Call, start, open-session, put, finish, turn, grant, abort, close, shutdown, lost, receive, State}
@@ -64,21 +64,21 @@ module _ (c : Connection) where
   whole-ends m (ping-ack-of k) = λ _ cause z. goes-ends z
 
   scope-ends : (m : Message) (z : Scope) → EndsAlone c (judgeScope c m z)
-  scope-ends m (whole w) = settled (EndsAlone c) (breach c) accept (judgeWhole c m w) (stops-all (λ n. tt) (judgeWhole c m w)) (whole-ends m w)
+  scope-ends m (whole w) = settled (EndsAlone c) (breachOf c) accept (judgeWhole c m w) (stops-all (λ n. tt) (judgeWhole c m w)) (whole-ends m w)
   scope-ends m (of-session i sm) =
       let p = receipt (roleOf (c .stage)) (ownStart c) (farStart c) (at c i) sm in
-      settled (EndsAlone c) (breach c) (λ t. accept (setting-session c i (c .last) (message m (t .late)) t)) p (stops-all (λ n. tt) p) (takes-all (λ t cause z. goes-ends z) p)
+      settled (EndsAlone c) (breachOf c) (λ t. accept (setting-session c i (c .last) (message m (t .late)) t)) p (stops-all (λ n. tt) p) (takes-all (λ t cause z. goes-ends z) p)
 
   header-ends : (r : Role) (h : Result ℕ) → EndsAlone c (headerTaken c r h)
   header-ends r (ok far) = λ cause z. goes-ends z
   header-ends r (refused n) = tt
-  header-ends r (violation n) = tt
+  header-ends r (violation f) = tt
 
   message-ends : (h : Result Message) → EndsAlone c (messageTaken c h)
   unfolding judge
   message-ends (ok m) = scope-ends m (scope m)
   message-ends (refused n) = tt
-  message-ends (violation n) = tt
+  message-ends (violation f) = tt
 
   reading-ends : (input : List ℕ) (st : Stage) → EndsAlone c (reading c input st)
   reading-ends input (stage.Fresh r) = header-ends r (readConnectionHeader input)

@@ -8,7 +8,7 @@ use lib.ListN.{length, take, drop, length-append, length-drop}
 use lib.Dec.{eqb, ltb}
 use borrow.Author.Tests.{eqb-true}
 use Rattle.laws.specs.Pick.{pick}
-use Rattle.laws.specs.Result.{Result, ok, refused, violation}
+use Rattle.laws.specs.Result.{fault, Result, ok, refused, violation}
 use Rattle.laws.specs.Runs.{gather}
 use Rattle.laws.proofs.Results.{refused-not-ok, violation-not-ok}
 use Rattle.laws.proofs.Tests.{and-first, and-second}
@@ -19,7 +19,7 @@ use Rattle.wire.specs.declared.Message.{Message}
 use Rattle.wire.specs.declared.Message.the-variants as msg
 use Rattle.wire.specs.Pattern.{O, I, bits, fits}
 use Rattle.wire.specs.FirstByte.{kindOf}
-use Rattle.wire.specs.Layout.{fixed}
+use Rattle.wire.specs.Layout.{fixed, firstWrong}
 use Rattle.wire.specs.Message.{bodyLength, typed, parseHeader, withBody, readMessage}
 use Rattle.wire.specs.Connection.{connectionLayout, parseConnectionHeader, readConnectionHeader}
 use Rattle.protocol.specs.Judge.{Output, header-out, sent}
@@ -64,7 +64,7 @@ magic-first : (b : ℕ) (s : List ℕ) (n : ℕ) → readConnectionHeader (b ∷
 unfolding readConnectionHeader parseConnectionHeader pick
 magic-first b s n q = long (ltb (length (b ∷ s)) 8) q
   where
-    right : (t : Bool) (far : ℕ) → fixed connectionLayout (take 8 (b ∷ s)) ≡ t → pick t (ok far) (violation 22) ≡ ok n → kindOf b ≡ Unknown
+    right : (t : Bool) (far : ℕ) → fixed connectionLayout (take 8 (b ∷ s)) ≡ t → pick t (ok far) (violation (fault 22 (firstWrong connectionLayout (take 8 (b ∷ s))))) ≡ ok n → kindOf b ≡ Unknown
     right true far e p = magic-no-type b (and-first (fits (bits O I O O I O I O) 128 b) _ e)
     right false far e p = absurd (violation-not-ok p)
 
@@ -79,7 +79,7 @@ header-no-message r (b ∷ s) n q =
     ap (λ (k : Named). messageIn (pick (ltb (length (b ∷ s)) 4) (refused 10) (withBody (length (b ∷ s)) (typed r (take 4 (b ∷ s)) k)))) (magic-first b s n q)
     ∙ go (ltb (length (b ∷ s)) 4)
   where
-    go : (t : Bool) → messageIn (pick t (refused 10) (violation 20)) ≡ []
+    go : (t : Bool) → messageIn (pick t (refused 10) (violation (fault 20 0))) ≡ []
     go true = refl
     go false = refl
 

@@ -118,7 +118,7 @@ module _ (s : Setup) (n : ℕ) (e : Entry) where
   by-answer k (ok (header-received far)) p q h = none [] refl h
   by-answer k (ok (message m late)) p q h = by-message k m late q h
   by-answer k (refused j) p q h = absurd (false≢true h)
-  by-answer k (violation j) p q h = violation-lapses j q
+  by-answer k (violation f) p q h = violation-lapses f q
 
   lapses-so : lapse s n e ≡ true → Lapsed n e
   lapses-so h = by-answer (e .call) (e .answer) refl refl h
@@ -142,7 +142,7 @@ module _ (s : Setup) (n : ℕ) (e : Entry) where
   is-lapse (own-shutdown-lapses room p q) = subst (λ (k : Call). Is k (e .answer)) (sym p) (subst (Is (shutdown room)) (sym q) (over seen))
   is-lapse (shutdown-lapses late detail q) = subst (Is (e .call)) (sym q) (over seen)
   is-lapse (error-lapses late detail q) = subst (Is (e .call)) (sym q) (over seen)
-  is-lapse (violation-lapses number q) = subst (Is (e .call)) (sym q) refl
+  is-lapse (violation-lapses f q) = subst (Is (e .call)) (sym q) refl
 
   pub lapse-only : (lapse s n e ≡ true) ↔ Lapsed n e
   lapse-only = (lapses-so, is-lapse)

@@ -5,14 +5,19 @@ use mathlib.Core.List.{List, []}
 use Prim.Native.Nat.{ℕ, _≤_, _<_}
 use native.Mathlib.Omega.{arith}
 use lib.Dec.{eqb, ltb}
-use borrow.Author.Tests.{ltb-true, leb-true}
-use Rattle.laws.specs.Result.{ok, refused, violation}
+use lib.ListN.{take}
+use borrow.Author.Tests.{ltb-true}
+use Rattle.laws.specs.Result.{Fault, ok, refused, violation}
 use Rattle.laws.proofs.Tests.{and-second}
 use Rattle.laws.proofs.Results.{refused-same, violation-same, refused-not-ok, violation-not-ok, violation-not-refused}
+use Rattle.wire.specs.declared.Role.{Role}
+use Rattle.wire.specs.Wrong.{MessageFault, no-type, wrong-bit, wrong-sender, wrong-flags, HeaderFault, wrong-byte}
+use Rattle.state.specs.declared.Stage.{Stage}
 use Rattle.state.specs.declared.Connection.{Connection}
 use Rattle.state.specs.declared.Session.{Session}
 use Rattle.protocol.specs.Plan.{Plan, settle}
-use Rattle.protocol.specs.Connection.{Cause, shutdown-received, error-received, own-shutdown, line-lost, at, wellFormed, ending, ended}
+use Rattle.protocol.specs.Message.{Scope, scope}
+use Rattle.protocol.specs.Connection.{otherEnd, Cause, shutdown-received, error-received, own-shutdown, line-lost, at, wellFormed, ending, ended}
 use Rattle.protocol.specs.Judge.{Report, done, served, header-received, message, Effect, Decision, refuse, violate, accept}
 use Rattle.laws.specs.Room.{overlaid}
 use Rattle.protocol.specs.Result.{Given, extentOf}
@@ -20,6 +25,7 @@ use Rattle.history.specs.Log.{Call, start, open-session, put, finish, tu
 use Rattle.history.specs.Log as log
 use Rattle.history.proofs.Decisions.{decide, nextBy, outBy, called-is, next-is, out-is}
 use Rattle.protocol.proofs.Plans.{settled, stops-all, takes-all}
+use Rattle.history.specs.Faults.{RuleFault, wrong-state, above-ration, past-largest, unasked-ack, ReceiveFault, header-wrong, message-wrong, rule-broken}
 use Rattle.history.specs.Claims.{takesInput, SameButOutcome, OnlyOver, errorBytes, RefusedLeaves}
 use Rattle.history.proofs.Violations.{broken-bytes}
 use Rattle.history.proofs.Simulation.{ended-at, queue-refused, queue-violated}
@@ -60,29 +66,27 @@ only-over cause c =
       sessions = λ n. subst (λ (x : Session). SameButOutcome x (at c n)) (sym (ended-at cause c n)) (same-ending cause (at c n));
     }
 
--- ---- only a receive finds a violation
+-- ---- a violation is a number from 20 up
 
-abbrev pub Violates : Decision → Type 0
-Violates (refuse n) = ⊥
-Violates (violate b) = Unit {0}
-Violates (accept e) = ⊥
+message-high : (from : Role) (h : List ℕ) (f : Fault) → MessageFault from h f → 20 ≤ f .number
+message-high from h f (no-type e) = omega arith
+message-high from h f (wrong-bit k place e w) = omega arith
+message-high from h f (wrong-sender k e x t) = omega arith
+message-high from h f (wrong-flags k e x t g) = omega arith
 
-local-not : (p : Plan Effect) → Violates (settle refuse accept p) → ⊥
-local-not p = settled (λ d. Violates d → ⊥) refuse accept p (stops-all (λ n h. h) p) (takes-all (λ e h. h) p)
+header-high : (h : List ℕ) (f : Fault) → HeaderFault h f → 20 ≤ f .number
+header-high h f (wrong-byte place w) = omega arith
 
-pub violated-receive : (c : Connection) (q : List ℕ) (k : Call) → Violates (decide c q k) → (input room : List ℕ) × (k ≡ receive input room)
-violated-receive c q (start room) h = absurd (local-not _ h)
-violated-receive c q (open-session n) h = absurd (local-not _ h)
-violated-receive c q (put n bytes) h = absurd (local-not _ h)
-violated-receive c q (finish n) h = absurd (local-not _ h)
-violated-receive c q (turn room) h = absurd (local-not _ h)
-violated-receive c q (grant n amount room) h = absurd (local-not _ h)
-violated-receive c q (abort n partial room) h = absurd (local-not _ h)
-violated-receive c q (close n room) h = absurd (local-not _ h)
-violated-receive c q (log.ping cookie room) h = absurd (local-not _ h)
-violated-receive c q (shutdown room) h = absurd (local-not _ h)
-violated-receive c q lost h = absurd (local-not _ h)
-violated-receive c q (receive input room) h = (input, room, refl)
+rule-high : (z : Scope) (f : Fault) → RuleFault z f → 20 ≤ f .number
+rule-high z f (wrong-state i m) = omega arith
+rule-high z f (above-ration i n o c e a) = omega arith
+rule-high z f (past-largest i n) = omega arith
+rule-high z f (unasked-ack k) = omega arith
+
+fault-high : (st : Stage) (input : List ℕ) (f : Fault) → ReceiveFault st input f → 20 ≤ f .number
+fault-high st input f (header-wrong g down long w) = header-high (take 8 input) g w
+fault-high st input f (message-wrong r far g up long w) = message-high (otherEnd r) (take 4 input) g w
+fault-high st input f (rule-broken r far m g up e w) = rule-high (scope m) g w
 
 module _ (s : State) (k : Call) where
   -- what a refusal leaves, by its number
@@ -97,17 +101,17 @@ module _ (s : State) (k : Call) where
   refusal-by (violate b) h n e = absurd (violation-not-refused e)
   refusal-by (accept x) h n e = absurd (refused-not-ok (sym e))
 
-  violated-by : (d : Decision) → Breaches s k d → (n : ℕ) → outBy s k d .answer ≡ violation n
-      → (20 ≤ n) × OnlyOver (s .connection) (nextBy s k d .connection) × (nextBy s k d .queue ≡ s .queue)
+  violated-by : (d : Decision) → Breaches s k d → (f : Fault) → outBy s k d .answer ≡ violation f
+      → (20 ≤ f .number) × OnlyOver (s .connection) (nextBy s k d .connection) × (nextBy s k d .queue ≡ s .queue)
       × (outBy s k d .wrote ≡ errorBytes (s .connection .stage) (s .connection .own))
-  violated-by (refuse j) h n e = absurd (violation-not-refused (sym e))
-  violated-by (violate b) h n e = (
-    subst (λ (m : ℕ). 20 ≤ m) (violation-same e) (leb-true 20 (b .code) (h .high)),
+  violated-by (refuse j) h f e = absurd (violation-not-refused (sym e))
+  violated-by (violate b) h f e = (
+    subst (λ (g : Fault). 20 ≤ g .number) (violation-same e) (fault-high (s .connection .stage) (h .found .0) (b .fault) (h .found .3)),
     only-over (b .cause) (s .connection),
     queue-violated (s .connection) (s .queue) k b,
     broken-bytes s k b (h .told),
   )
-  violated-by (accept x) h n e = absurd (violation-not-ok (sym e))
+  violated-by (accept x) h f e = absurd (violation-not-ok (sym e))
 
   unused-by : (d : Decision) → takesInput (outBy s k d .answer) ≡ false → (outBy s k d .used ≡ 0) × (outBy s k d .start ≡ 0) × (outBy s k d .end ≡ 0)
   unused-by (refuse j) h = (refl, refl, refl)
@@ -120,11 +124,13 @@ module _ (s : State) (k : Call) where
       go (header-received far) e = absurd (true≢false e)
       go (message m late) e = absurd (true≢false e)
 
-  -- an answer that is a violation comes from a decision that is one
-  violation-of : (d : Decision) (n : ℕ) → outBy s k d .answer ≡ violation n → Violates d
-  violation-of (refuse j) n e = violation-not-refused (sym e)
-  violation-of (violate b) n e = tt
-  violation-of (accept x) n e = violation-not-ok (sym e)
+  receives-by : (d : Decision) → Breaches s k d → (f : Fault) → outBy s k d .answer ≡ violation f
+      → (input room : List ℕ) × (k ≡ receive input room) × ReceiveFault (s .connection .stage) input f
+  receives-by (refuse j) h f e = absurd (violation-not-refused (sym e))
+  receives-by (violate b) h f e =
+      let w = h .found in
+      (w .0, w .1, w .2, subst (ReceiveFault (s .connection .stage) (w .0)) (violation-same e) (w .3))
+  receives-by (accept x) h f e = absurd (violation-not-ok (sym e))
 
   -- well formed or not
   ruled : (b : Bool) → wellFormed (s .connection) ≡ b → Below (decide (s .connection) (s .queue) k) × Breaches s k (decide (s .connection) (s .queue) k)
@@ -144,7 +150,7 @@ module _ (s : State) (k : Call) where
               ap (λ (x : Entry). x .wrote) (out-is s k) ∙ z .2,
               ap (λ (g : Given × List ℕ × List ℕ). g .2) (called-is s k) ∙ z .3,
             );
-        violated = λ n e. rw (next-is, out-is) (violated-by (decide (s .connection) (s .queue) k) (h .1) n (rw out-is at e));
+        violated = λ f e. rw (next-is, out-is) (violated-by (decide (s .connection) (s .queue) k) (h .1) f (rw out-is at e));
         unused = λ e. rw out-is (unused-by (decide (s .connection) (s .queue) k) (rw out-is at e));
-        receives = λ n e. violated-receive (s .connection) (s .queue) k (violation-of (decide (s .connection) (s .queue) k) n (rw out-is at e));
+        receives = λ f e. receives-by (decide (s .connection) (s .queue) k) (h .1) f (rw out-is at e);
       }

@@ -17,6 +17,7 @@ pub mod Entries
 pub mod Rulings
 pub mod Never
 pub mod Bounded
+pub mod Faults
 pub mod Leaves
 pub mod Reading
 pub mod Taking

@@ -54,4 +54,4 @@ module _ (l : Line) where
   over-told k (ok (header-received far)) = stays (l .over)
   over-told k (ok (message m late)) = by-message (scope m)
   over-told k (refused n) = stays (l .over)
-  over-told k (violation n) = ends-it (l .over)
+  over-told k (violation f) = ends-it (l .over)

@@ -8,7 +8,7 @@ use lib.ListN.{length, take}
 use lib.Dec.{ltb}
 use borrow.Author.Tests.{ltb-false, le-ltb}
 use Rattle.laws.specs.Pick.{pick}
-use Rattle.laws.specs.Result.{Result, ok, refused, violation}
+use Rattle.laws.specs.Result.{Fault, Result, ok, refused, violation}
 use Rattle.laws.proofs.Results.{ok-same, refused-not-ok, violation-not-ok}
 use Rattle.wire.specs.declared.Role.{Role}
 use Rattle.wire.specs.declared.Role.the-variants as role
@@ -63,7 +63,7 @@ module _ (s : State) (k : Call) (input : List ℕ) where
   header-front : (r : Role) (h : Result ℕ) → readConnectionHeader input ≡ h → DecidesFront (setupOf (s .connection)) s k input (headerTaken c r h)
   header-front r (ok far) q = (q, refl, header-long input far q, refl, refl)
   header-front r (refused n) q = tt
-  header-front r (violation n) q = tt
+  header-front r (violation f) q = tt
 
   tells-front : (m : Message) → readMessage (otherEnd (roleOf (c .stage))) input ≡ ok m → (d : Decision) → Tells m d → DecidesFront (setupOf (s .connection)) s k input d
   tells-front m q (refuse n) w = tt
@@ -81,7 +81,7 @@ module _ (s : State) (k : Call) (input : List ℕ) where
   message-front : (h : Result Message) → readMessage (otherEnd (roleOf (c .stage))) input ≡ h → DecidesFront (setupOf (s .connection)) s k input (messageTaken c h)
   message-front (ok m) q = tells-front m q (judge c m) (judge-tells c m)
   message-front (refused n) q = tt
-  message-front (violation n) q = tt
+  message-front (violation f) q = tt
 
   reading-front : (st : Stage) → c .stage ≡ st → DecidesFront (setupOf (s .connection)) s k input (reading c input st)
   reading-front (stage.Fresh r) e = header-front r (readConnectionHeader input) refl
@@ -113,7 +113,7 @@ past-heard c room p (accept e) = λ m late q. p
 header-heard : (c : Connection) (room : ℕ) (r : Role) (h : Result ℕ) → Heard c room (headerTaken c r h)
 header-heard c room r (ok far) = λ m late q. absurd (let z : _≡_ {A = ℕ} 0 1 = cc in omega arith)
 header-heard c room r (refused n) = tt
-header-heard c room r (violation n) = tt
+header-heard c room r (violation f) = tt
 
 reading-heard : (c : Connection) (input : List ℕ) (room : ℕ) (st : Stage) → c .stage ≡ st → c .over ≡ false → 12 ≤ room → Heard c room (reading c input st)
 reading-heard c input room (stage.Fresh r) e live roomy = header-heard c room r (readConnectionHeader input)
@@ -146,7 +146,7 @@ Greets c room (accept e) = (far : ℕ) → e .report ≡ header-received far →
 due-greets : (c : Connection) (room : ℕ) → Due c room → (r : Role) (h : Result ℕ) → Greets c room (headerTaken c r h)
 due-greets c room p r (ok far) = λ k q. p
 due-greets c room p r (refused n) = tt
-due-greets c room p r (violation n) = tt
+due-greets c room p r (violation f) = tt
 
 told-greets : (c : Connection) (room : ℕ) (m : Message) (d : Decision) → Tells m d → Greets c room d
 told-greets c room m (refuse n) w = tt
@@ -157,7 +157,7 @@ told-greets c room m (accept e) w =
 message-greets : (c : Connection) (room : ℕ) (h : Result Message) → Greets c room (messageTaken c h)
 message-greets c room (ok m) = told-greets c room m (judge c m) (judge-tells c m)
 message-greets c room (refused n) = tt
-message-greets c room (violation n) = tt
+message-greets c room (violation f) = tt
 
 header-due : (st : Stage) → exchanged st ≡ false → unstarted st ≡ false → headerDue (roleOf st) (greetingOf st) ≡ true
 header-due (stage.Fresh role.Client) e b = absurd (true≢false b)
@@ -211,7 +211,7 @@ module _ (s : State) (k : Call) where
   header-answered : (r : Role) (h : Result ℕ) → outBy s k (headerTaken (s .connection) r h) .answer ≡ headerAnswer h
   header-answered r (ok far) = refl
   header-answered r (refused n) = refl
-  header-answered r (violation n) = refl
+  header-answered r (violation f) = refl
 
   due-answered : (input : List ℕ) (st : Stage) → headerDue (roleOf st) (greetingOf st) ≡ true → outBy s k (reading (s .connection) input st) .answer ≡ headerAnswer (readConnectionHeader input)
   due-answered input (stage.Fresh r) e = header-answered r (readConnectionHeader input)
@@ -233,7 +233,7 @@ record Reads (s : Setup) (a : List Entry) (e : Entry) (input room : List ℕ) : 
   headers : Awaiting s a (length room) → e .answer ≡ headerAnswer (readConnectionHeader input)
   awaited : (far : ℕ) → e .answer ≡ ok (header-received far) → Awaiting s a (length room)
   short : (n : ℕ) → Listening s a (length room) → readMessage (otherEnd (s .role)) input ≡ refused n → e .answer ≡ refused n
-  broken : (n : ℕ) → Listening s a (length room) → readMessage (otherEnd (s .role)) input ≡ violation n → e .answer ≡ violation n
+  broken : (f : Fault) → Listening s a (length room) → readMessage (otherEnd (s .role)) input ≡ violation f → e .answer ≡ violation f
 
 front-taken : (s : Setup) (st : State) (k : Call) (input : List ℕ) (d : Decision) → DecidesFront s st k input d → (r : Report) → outBy st k d .answer ≡ ok r → ReportsFront s input (outBy st k d) r
 front-taken s st k input (refuse n) h r e = absurd (refused-not-ok e)
@@ -288,7 +288,7 @@ module _ (setup : Setup) (hh : Proper setup) (queue : List ℕ) where
               roomy = p .2;
             };
         short = λ n l q. not-given ks input room (refused n) l q;
-        broken = λ n l q. not-given ks input room (violation n) l q;
+        broken = λ f l q. not-given ks input room (violation f) l q;
       }
 
   reads-log : (calls : List Call) (a c : List Entry) (e : Entry) (input room : List ℕ) → log.log setup queue calls ≡ a ++ (e ∷ c) → e .call ≡ receive input room → Reads setup a e input room

@@ -8,7 +8,7 @@ use native.Mathlib.Omega.{arith}
 use lib.ListN.{length, set}
 use borrow.Author.Tests.{eq-eqb}
 use Rattle.laws.specs.Pick.{pick}
-use Rattle.laws.specs.Result.{Result, ok, refused, violation}
+use Rattle.laws.specs.Result.{Fault, Result, ok, refused, violation}
 use Rattle.laws.specs.Runs.{Every}
 use Rattle.laws.proofs.Tests.{and-both}
 use Rattle.ration.specs.declared.Ration.{Ration}
@@ -29,7 +29,7 @@ use Rattle.protocol.specs.Plan.{Plan, settle}
 use Rattle.protocol.specs.Message.{ConnectionMessage, no-operation-of, shutdown-of, error-of, ping-of, ping-ack-of, SessionMessage, Scope, whole, of-session, scope, numbered}
 use Rattle.protocol.specs.Receipt.{Taken, receipt}
 use Rattle.protocol.specs.Connection.{otherEnd, shutdown-received, error-received, at, roleOf, exchanged, farStart, ownStart}
-use Rattle.protocol.specs.Judge.{unchanged, header-received, message, Output, header-out, sent, Ending, goes-on, ends, Decision, refuse, violate, accept, setting-session, continued, breach, judgeWhole, judgeScope, judge}
+use Rattle.protocol.specs.Judge.{unchanged, header-received, message, Output, header-out, sent, Ending, goes-on, ends, Decision, refuse, violate, accept, setting-session, continued, breach, faultOf, breachOf, judgeWhole, judgeScope, judge}
 use Rattle.protocol.specs.Call.{unstarted, answering, headerTaken, messageTaken, reading, receiveGate, receiveRule}
 use Rattle.protocol.specs.Result.{bytesOfAll}
 use Rattle.protocol.specs.Observed.{received, repliesAt, mayArrive, wrongNumber}
@@ -128,11 +128,11 @@ possible r m i x e f = go r m e (f .sender) (f .flags)
     go role.Server (msg.Data b c g a j n) e s f = subst (Possible role.Server) (inner e) (not-closing b c g a f)
 
 module _ (s : State) (o : Ok (setupOf (s .connection)) s) (input room : List ℕ) (live : s .connection .over ≡ false) (begun : unstarted (s .connection .stage) ≡ false) where
-  found : (n : ℕ) → GoodBy s (receive input room) (breach (s .connection) n)
-  found n = record { told = breach-told s input room n; live = live; begun = begun }
+  found : (f : Fault) → GoodBy s (receive input room) (breach (s .connection) f)
+  found f = record { told = breach-told s input room f; live = live; begun = begun }
 
-  judged : {A : Type 0} (f : A → Decision) (p : Plan A) → Takes (λ a. GoodBy s (receive input room) (f a)) p → GoodBy s (receive input room) (settle (breach (s .connection)) f p)
-  judged f p h = plans.settled (GoodBy s (receive input room)) (breach (s .connection)) f p (stops-all found p) h
+  judged : {A : Type 0} (f : A → Decision) (p : Plan A) → Takes (λ a. GoodBy s (receive input room) (f a)) p → GoodBy s (receive input room) (settle (breachOf (s .connection)) f p)
+  judged f p h = plans.settled (GoodBy s (receive input room)) (breachOf (s .connection)) f p (stops-all (λ n. found (faultOf n)) p) h
 
   -- ---- a connection header
 
@@ -170,7 +170,7 @@ module _ (s : State) (o : Ok (setupOf (s .connection)) s) (input room : List ℕ
       → (h : Result ℕ) → readConnectionHeader input ≡ h → GoodBy s (receive input room) (headerTaken (s .connection) r h)
   header-good r er up greets (ok far) q = number-good r er up greets far (header-number input far q)
   header-good r er up greets (refused n) q = tt
-  header-good r er up greets (violation n) q = found n
+  header-good r er up greets (violation f) q = found f
 
   -- ---- a message
 
@@ -289,7 +289,7 @@ module _ (s : State) (o : Ok (setupOf (s .connection)) s) (input room : List ℕ
   unfolding judge
   message-good (ok m) q up = judge-good m (scope m) refl up (message-sent (otherEnd (roleOf (s .connection .stage))) input m q)
   message-good (refused n) q up = tt
-  message-good (violation n) q up = found n
+  message-good (violation f) q up = found f
 
   reading-good : (st : Stage) → s .connection .stage ≡ st → GoodBy s (receive input room) (reading (s .connection) input st)
   reading-good (stage.Fresh r) e = header-good r (ap roleOf e) (ap exchanged e) (λ _. ap (λ (z : Stage). ungreeted (greetingOf z)) e) (readConnectionHeader input) refl

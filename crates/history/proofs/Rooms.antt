@@ -9,7 +9,7 @@ use lib.Seq.{drop-at}
 use lib.Dec.{ltb}
 use borrow.Author.Tests.{ltb-false}
 use Rattle.laws.specs.Pick.{pick}
-use Rattle.laws.specs.Result.{Result, ok, refused, violation}
+use Rattle.laws.specs.Result.{Fault, Result, ok, refused, violation}
 use Rattle.laws.specs.Room.{overlaid}
 use Rattle.ration.specs.declared.Ration.{Ration}
 use Rattle.wire.specs.declared.Role.{Role}
@@ -33,7 +33,7 @@ use Rattle.protocol.specs.Receipt.{Taken, receipt}
 use Rattle.protocol.specs.Ask.{grantAsk, abortAsk, closeAsk, turnOf, turnAsk}
 use Rattle.protocol.specs.Connection.{otherEnd, at, roleOf, ownStart, farStart}
 use Rattle.protocol.specs.Observed.{Ends, unused, ends, answered, repliesAt}
-use Rattle.protocol.specs.Judge.{Report, done, served, message, sent, Effect, Decision, refuse, accept, setting-session, breach, judgeWhole, judgeScope, judge}
+use Rattle.protocol.specs.Judge.{Report, done, served, message, sent, Effect, Decision, refuse, accept, setting-session, breach, faultOf, breachOf, judgeWhole, judgeScope, judge}
 use Rattle.protocol.specs.Call.{startRule, turnRule, grantRule, abortRule, closeRule, pingRule, shutdownRule, receiveRule, nextReady, receiveGate, headerTaken, messageTaken, reading}
 use Rattle.protocol.specs.Result.{Given, decided, turnPayload, bytesOfAll, writtenBy}
 use Rattle.protocol.proofs.Plans.{Takes, takes-then, takes-map, stops-all, settled}
@@ -167,15 +167,15 @@ module _ (s : State) (input room : List ℕ) where
   ReceiveFits = Fits (length room)
 
   module _ (wide : 12 ≤ length room) where
-    breach-fits : (n : ℕ) → ReceiveFits (breach (s .connection) n)
-    breach-fits n = omega (arith, broken-fits s (receive input room) _ (breach-told s input room n))
+    breach-fits : (f : Fault) → ReceiveFits (breach (s .connection) f)
+    breach-fits f = omega (arith, broken-fits s (receive input room) _ (breach-told s input room f))
 
     header-fits : (r : Role) (h : Result ℕ) → ReceiveFits (headerTaken (s .connection) r h)
     unfolding bytesOfAll
     header-fits role.Client (ok far) = omega arith
     header-fits role.Server (ok far) = omega arith
     header-fits r (refused n) = omega arith
-    header-fits r (violation n) = breach-fits n
+    header-fits r (violation f) = breach-fits f
 
     whole-fits : (m : Message) (w : ConnectionMessage) → Takes (λ e. ReceiveFits (accept e)) (judgeWhole (s .connection) m w)
     whole-fits m no-operation-of = nothing-fits (s .connection) (length room)
@@ -186,11 +186,11 @@ module _ (s : State) (input room : List ℕ) where
 
     scope-fits : (m : Message) (z : Scope) → ReceiveFits (judgeScope (s .connection) m z)
     scope-fits m (whole w) =
-        settled ReceiveFits (breach (s .connection)) accept (judgeWhole (s .connection) m w) (stops-all breach-fits (judgeWhole (s .connection) m w)) (whole-fits m w)
+        settled ReceiveFits (breachOf (s .connection)) accept (judgeWhole (s .connection) m w) (stops-all (λ n. breach-fits (faultOf n)) (judgeWhole (s .connection) m w)) (whole-fits m w)
     scope-fits m (of-session i x) =
         let c = s .connection in
         let p = receipt (roleOf (c .stage)) (ownStart c) (farStart c) (at c i) x in
-        settled ReceiveFits (breach c) (λ t. accept (setting-session c i (c .last) (message m (t .late)) t)) p (stops-all breach-fits p)
+        settled ReceiveFits (breachOf c) (λ t. accept (setting-session c i (c .last) (message m (t .late)) t)) p (stops-all (λ n. breach-fits (faultOf n)) p)
         (takes-map (λ t k. omega (arith, sent-length i [] (t .sent) k)) p
         (sends-one (repliesAt (roleOf (c .stage)) (endsOf (at c i .sides)) x) (reply-one (roleOf (c .stage)) (endsOf (at c i .sides)) x) p (receipt-sends (at c i) (roleOf (c .stage)) (ownStart c) (farStart c) x)))
 
@@ -198,7 +198,7 @@ module _ (s : State) (input room : List ℕ) where
     unfolding judge
     read-fits (ok m) = scope-fits m (scope m)
     read-fits (refused n) = omega arith
-    read-fits (violation n) = breach-fits n
+    read-fits (violation f) = breach-fits f
 
     reading-fits : (st : Stage) → ReceiveFits (reading (s .connection) input st)
     reading-fits (stage.Fresh r) = header-fits r (readConnectionHeader input)

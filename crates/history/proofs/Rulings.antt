@@ -1,36 +1,41 @@
--- With which numbers a call is refused: 14 where the state is not well formed, else another below 20; a violation is a number from 20 up, as the log
--- tells it. From the numbers of the rules and of the reader.
+-- With which numbers a call is refused: 14 where the state is not well formed, else another below 20; a violation says what is wrong with the
+-- input, by its number and place, and is as the log tells it. From the numbers of the rules and the faults of the reader.
 use mathlib.Core.Path.{_≡_, refl, sym, ap, subst}
 use mathlib.Core.Bool.{true, false, not}
 use mathlib.Core.List.{List}
 use Prim.Native.Nat.{ℕ}
 use lib.ListN.{length}
-use Rattle.laws.specs.Result.{Result, ok, refused, violation}
+use Rattle.laws.specs.Result.{Fault, Result, ok, refused, violation}
 use Rattle.wire.specs.declared.Role.{Role}
 use Rattle.wire.specs.declared.Message.{Message}
 use Rattle.wire.specs.Message.{readMessage}
 use Rattle.wire.specs.Connection.{readConnectionHeader}
 use Rattle.wire.proofs.Bounds.{ShortOnly, message-short, header-short}
+use Rattle.wire.proofs.Places.{message-fault, header-fault}
+use Rattle.ration.specs.declared.Ration.{Ration}
 use Rattle.state.specs.declared.Stage.{Stage}
 use Rattle.state.specs.declared.Stage.the-variants as stage
+use Rattle.state.specs.declared.Session.{Session}
 use Rattle.state.specs.declared.Connection.{Connection}
 use Rattle.protocol.specs.Plan.{Plan, check, settle, andThen}
-use Rattle.protocol.specs.Message.{Scope, whole, of-session, scope}
+use Rattle.protocol.specs.Message.{ConnectionMessage, ping-ack-of, SessionMessage, data-of, increment-of, Scope, whole, of-session, scope}
 use Rattle.protocol.specs.Receipt.{Taken, receipt}
-use Rattle.protocol.specs.Connection.{otherEnd, at, roleOf, ownStart, farStart, wellFormed}
-use Rattle.protocol.specs.Judge.{Report, done, message, Effect, Breach, Decision, refuse, violate, accept, setting-session, breach, judgeWhole, judgeScope, judge}
+use Rattle.protocol.specs.Connection.{otherEnd, at, roleOf, exchanged, ownStart, farStart, wellFormed}
+use Rattle.protocol.specs.Judge.{Report, done, message, Effect, Breach, Decision, refuse, violate, accept, setting-session, breach, faultOf, breachOf, judgeWhole, judgeScope, judge}
 use Rattle.protocol.specs.Call.{startRule, openRule, putRule, finishRule, turnRule, grantRule, abortRule, closeRule, pingRule, shutdownRule, lostRule, receiveRule, nextReady, headerTaken, messageTaken, reading}
 use Rattle.protocol.specs.Ask.{openAsk, putAsk, finishAsk, grantAsk, abortAsk, closeAsk, turnAsk}
 use Rattle.protocol.proofs.Plans.{stops, passes, settled, takes-all, Stops, stops-then, stops-map}
-use Rattle.protocol.proofs.Numbers.{isLow, Low, High, open-low, put-low, finish-low, grant-low, abort-low, close-low, turn-low, receipt-high, whole-high}
+use Rattle.protocol.proofs.Numbers.{isLow, Low, open-low, put-low, finish-low, grant-low, abort-low, close-low, turn-low, receipt-numbers, whole-numbers}
+use Rattle.protocol.proofs.Faults.{fault-25, fault-26, fault-27, fault-28}
 use Rattle.history.specs.Log.{Call, start, open-session, put, finish, turn, grant, abort, close, shutdown, lost, receive, State}
 use Rattle.history.specs.Log as log
+use Rattle.history.specs.Faults.{RuleFault, wrong-state, above-ration, past-largest, unasked-ack, ReceiveFault, header-wrong, message-wrong, rule-broken}
 use Rattle.history.proofs.Decisions.{decide}
 use Rattle.history.proofs.Violations.{Broken, breach-told}
 
--- a violation is a number from 20 up, as the log tells it
+-- a violation says what is wrong with the input of a receive, and is as the log tells it
 pub record Breached (s : State) (k : Call) (b : Breach) : Type 0 where
-  pub high : High (b .code)
+  pub found : (input room : List ℕ) × (k ≡ receive input room) × ReceiveFault (s .connection .stage) input (b .fault)
   pub told : Broken s k b
 
 abbrev pub Ruled : State → Call → Decision → Type 0
@@ -44,37 +49,55 @@ module _ (s : State) (input room : List ℕ) where
   abbrev Received : Decision → Type 0
   Received = Ruled s (receive input room)
 
-  breach-ruled : (n : ℕ) → High n → Received (breach (s .connection) n)
-  breach-ruled n h = record { high = h; told = breach-told s input room n }
+  breach-ruled : (f : Fault) → ReceiveFault (s .connection .stage) input f → Received (breach (s .connection) f)
+  breach-ruled f q = record { found = (input, room, refl, q); told = breach-told s input room f }
 
-  breached : {A : Type 0} (p : Plan A) → Stops High p → Stops (λ n. Received (breach (s .connection) n)) p
-  breached p h = stops-map High (λ n. Received (breach (s .connection) n)) breach-ruled p h
+  header-ruled : exchanged (s .connection .stage) ≡ false → (r : Role) (h : Result ℕ) → readConnectionHeader input ≡ h → ShortOnly h
+      → Received (headerTaken (s .connection) r h)
+  header-ruled down r (ok far) e h = tt
+  header-ruled down r (refused n) e h = ap isLow h
+  header-ruled down r (violation f) e h = let w = header-fault input f e in breach-ruled f (header-wrong f down (w .0) (w .1))
 
-  header-ruled : (r : Role) (h : Result ℕ) → ShortOnly h → Received (headerTaken (s .connection) r h)
-  header-ruled r (ok far) h = tt
-  header-ruled r (refused n) h = ap isLow h
-  header-ruled r (violation n) h = breach-ruled n h
+  module _ (r : Role) (far : ℕ) (up : s .connection .stage ≡ stage.Up r far) where
+    -- the numbers of the rules, each at its place
+    session-fault : (i : ℕ) (x : Session) (role : Role) (own far : Ration) (m : SessionMessage)
+        → Stops (λ n. RuleFault (of-session i m) (faultOf n)) (receipt role own far x m)
+    session-fault i x role own far m =
+        receipt-numbers (λ k n. RuleFault (of-session i k) (faultOf n)) (λ k. subst (RuleFault (of-session i k)) (sym fault-25) (wrong-state i k))
+        (λ n o c e a. subst (RuleFault (of-session i (data-of n o c e a))) (sym fault-26) (above-ration i n o c e a))
+        (λ n. subst (RuleFault (of-session i (increment-of n))) (sym fault-27) (past-largest i n)) x role own far m
 
-  scope-ruled : (m : Message) (z : Scope) → Received (judgeScope (s .connection) m z)
-  scope-ruled m (whole w) =
-      let p = judgeWhole (s .connection) m w in
-      settled Received (breach (s .connection)) accept p (breached p (whole-high (s .connection) m w)) (takes-all (λ e. tt) p)
-  scope-ruled m (of-session i sm) =
-      let c = s .connection in
-      let p = receipt (roleOf (c .stage)) (ownStart c) (farStart c) (at c i) sm in
-      settled Received (breach c) (λ t. accept (setting-session c i (c .last) (message m (t .late)) t)) p
-      (breached p (receipt-high (at c i) (roleOf (c .stage)) (ownStart c) (farStart c) sm)) (takes-all (λ t. tt) p)
+    whole-fault : (c : Connection) (m : Message) (w : ConnectionMessage) → Stops (λ n. RuleFault (whole w) (faultOf n)) (judgeWhole c m w)
+    whole-fault c m w =
+        whole-numbers (λ v n. RuleFault (whole v) (faultOf n)) (λ k. subst (RuleFault (whole (ping-ack-of k))) (sym fault-28) (unasked-ack k)) c m w
 
-  message-ruled : (h : Result Message) → ShortOnly h → Received (messageTaken (s .connection) h)
-  unfolding judge
-  message-ruled (ok m) h = scope-ruled m (scope m)
-  message-ruled (refused n) h = ap isLow h
-  message-ruled (violation n) h = breach-ruled n h
+    module _ (m : Message) (e : readMessage (otherEnd r) input ≡ ok m) where
+      unfit : (z : Scope) → scope m ≡ z → (n : ℕ) → RuleFault z (faultOf n) → Received (breachOf (s .connection) n)
+      unfit z q n w = breach-ruled (faultOf n) (rule-broken r far m (faultOf n) up e (subst (λ (y : Scope). RuleFault y (faultOf n)) (sym q) w))
 
-  reading-ruled : (st : Stage) → Received (reading (s .connection) input st)
-  reading-ruled (stage.Fresh r) = header-ruled r (readConnectionHeader input) (header-short input)
-  reading-ruled stage.Started = header-ruled _ (readConnectionHeader input) (header-short input)
-  reading-ruled (stage.Up r far) = message-ruled (readMessage (otherEnd r) input) (message-short (otherEnd r) input)
+      scope-ruled : (z : Scope) → scope m ≡ z → Received (judgeScope (s .connection) m z)
+      scope-ruled (whole w) q =
+          let p = judgeWhole (s .connection) m w in
+          settled Received (breachOf (s .connection)) accept p
+          (stops-map (λ n. RuleFault (whole w) (faultOf n)) (λ n. Received (breachOf (s .connection) n)) (unfit (whole w) q) p (whole-fault (s .connection) m w))
+          (takes-all (λ e. tt) p)
+      scope-ruled (of-session i sm) q =
+          let c = s .connection in
+          let p = receipt (roleOf (c .stage)) (ownStart c) (farStart c) (at c i) sm in
+          settled Received (breachOf c) (λ t. accept (setting-session c i (c .last) (message m (t .late)) t)) p
+          (stops-map (λ n. RuleFault (of-session i sm) (faultOf n)) (λ n. Received (breachOf c n)) (unfit (of-session i sm) q) p
+          (session-fault i (at c i) (roleOf (c .stage)) (ownStart c) (farStart c) sm)) (takes-all (λ t. tt) p)
+
+    message-ruled : (h : Result Message) → readMessage (otherEnd r) input ≡ h → ShortOnly h → Received (messageTaken (s .connection) h)
+    unfolding judge
+    message-ruled (ok m) e h = scope-ruled m e (scope m) refl
+    message-ruled (refused n) e h = ap isLow h
+    message-ruled (violation f) e h = let w = message-fault (otherEnd r) input f e in breach-ruled f (message-wrong r far f up (w .0) (w .1))
+
+  reading-ruled : (st : Stage) → s .connection .stage ≡ st → Received (reading (s .connection) input st)
+  reading-ruled (stage.Fresh r) e = header-ruled (ap exchanged e) r (readConnectionHeader input) refl (header-short input)
+  reading-ruled stage.Started e = header-ruled (ap exchanged e) _ (readConnectionHeader input) refl (header-short input)
+  reading-ruled (stage.Up r far) e = message-ruled r far e (readMessage (otherEnd r) input) refl (message-short (otherEnd r) input)
 
 -- ---- every call
 
@@ -110,7 +133,7 @@ module _ (s : State) where
     decide-ruled (log.ping cookie room) = local (log.ping cookie room) _ (refl, (refl, (refl, (refl, tt))))
     decide-ruled (shutdown room) = local (shutdown room) _ (refl, (refl, (refl, (refl, tt))))
     decide-ruled lost = local lost _ (refl, tt)
-    decide-ruled (receive input room) = behind (receive input room) (λ go. reading c input (c .stage)) (λ go. reading-ruled s input room (c .stage)) _ (refl, (refl, (refl, tt)))
+    decide-ruled (receive input room) = behind (receive input room) (λ go. reading c input (c .stage)) (λ go. reading-ruled s input room (c .stage) refl) _ (refl, (refl, (refl, tt)))
 
   -- for one that is not
   pub decide-ill : wellFormed (s .connection) ≡ false → (k : Call) → decide (s .connection) (s .queue) k ≡ refuse 14

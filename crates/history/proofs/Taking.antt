@@ -24,7 +24,7 @@ use Rattle.protocol.specs.Plan.{Plan, settle}
 use Rattle.protocol.specs.Message.{ConnectionMessage, no-operation-of, shutdown-of, error-of, ping-of, ping-ack-of, SessionMessage, Scope, whole, of-session, scope}
 use Rattle.protocol.specs.Receipt.{Taken, receipt}
 use Rattle.protocol.specs.Connection.{otherEnd, at, roleOf, exchanged, ownStart, farStart, wellFormed}
-use Rattle.protocol.specs.Judge.{message, Effect, Decision, accept, setting-session, breach, matches, judgeWhole, judgeScope, judge}
+use Rattle.protocol.specs.Judge.{message, Effect, Decision, accept, setting-session, faultOf, breachOf, matches, judgeWhole, judgeScope, judge}
 use Rattle.protocol.specs.Call.{messageTaken, reading, receiveRule}
 use Rattle.protocol.specs.Observed.{greeted, lateFor, mayArrive, wrongNumber}
 use Rattle.protocol.proofs.Plans.{Takes, Exactly, exact-takes, exact-stops, takes-map}
@@ -91,19 +91,19 @@ wrongIn s (of-session i x) = wrongNumber (roleOf (s .connection .stage)) (holds 
 module _ (s : State) (k : Call) (m : Message) where
   -- taken, or a violation
   abbrev Judged : Bool → ℕ → Bool → Decision → Type 0
-  Judged t w late d = (t ≡ true → outBy s k d .answer ≡ ok (message m late)) × (t ≡ false → outBy s k d .answer ≡ violation w)
+  Judged t w late d = (t ≡ true → outBy s k d .answer ≡ ok (message m late)) × (t ≡ false → outBy s k d .answer ≡ violation (faultOf w))
 
   by-plan : {A : Type 0} (good : A → Effect) (t : Bool) (w : ℕ) (late : Bool) (p : Plan A) → Exactly t w p → Takes (λ a. Reports m late (good a)) p
-      → Judged t w late (settle (breach (s .connection)) (λ a. accept (good a)) p)
+      → Judged t w late (settle (breachOf (s .connection)) (λ a. accept (good a)) p)
   by-plan good t w late p h r = (taken, not-taken)
     where
-      taken : t ≡ true → outBy s k (settle (breach (s .connection)) (λ a. accept (good a)) p) .answer ≡ ok (message m late)
+      taken : t ≡ true → outBy s k (settle (breachOf (s .connection)) (λ a. accept (good a)) p) .answer ≡ ok (message m late)
       taken e =
-          let z = exact-takes (breach (s .connection)) (λ a. accept (good a)) (λ a. Reports m late (good a)) t w p h r e in
+          let z = exact-takes (breachOf (s .connection)) (λ a. accept (good a)) (λ a. Reports m late (good a)) t w p h r e in
           ap (λ (d : Decision). outBy s k d .answer) (z .1) ∙ ap ok (z .2)
 
-      not-taken : t ≡ false → outBy s k (settle (breach (s .connection)) (λ a. accept (good a)) p) .answer ≡ violation w
-      not-taken e = ap (λ (d : Decision). outBy s k d .answer) (exact-stops (breach (s .connection)) (λ a. accept (good a)) t w p h e)
+      not-taken : t ≡ false → outBy s k (settle (breachOf (s .connection)) (λ a. accept (good a)) p) .answer ≡ violation (faultOf w)
+      not-taken e = ap (λ (d : Decision). outBy s k d .answer) (exact-stops (breachOf (s .connection)) (λ a. accept (good a)) t w p h e)
 
   by-scope : (setup : Setup) → Ok setup s → exchanged (s .connection .stage) ≡ true → Sent (otherEnd (roleOf (s .connection .stage))) m
       → (z : Scope) → scope m ≡ z → Judged (test s z) (wrongIn s z) (lateIn s z) (judgeScope (s .connection) m z)
@@ -143,7 +143,7 @@ module _ (setup : Setup) (hh : Proper setup) (queue : List ℕ) where
 
   judged-calls : (ks : List Call) (input room : List ℕ) (m : Message) → Listening setup (log.log setup queue ks) (length room) → readMessage (otherEnd (setup .role)) input ≡ ok m
       → (mayCome setup (log.log setup queue ks) (scope m) ≡ true → out (log.run setup queue ks) (receive input room) .answer ≡ ok (message m (lateOf setup (log.log setup queue ks) (scope m))))
-      × (mayCome setup (log.log setup queue ks) (scope m) ≡ false → out (log.run setup queue ks) (receive input room) .answer ≡ violation (wrongFor setup (log.log setup queue ks) (scope m)))
+      × (mayCome setup (log.log setup queue ks) (scope m) ≡ false → out (log.run setup queue ks) (receive input room) .answer ≡ violation (faultOf (wrongFor setup (log.log setup queue ks) (scope m))))
   unfolding judge
   judged-calls ks input room m l q =
       let s = log.run setup queue ks in
@@ -158,12 +158,12 @@ module _ (setup : Setup) (hh : Proper setup) (queue : List ℕ) where
       let number : (i : ℕ) (x : SessionMessage) → scope m ≡ of-session i x → i < 128 = λ i x e. subst (λ (n : ℕ). n < 128) (scope-number m i x e) (w .session) in
       let t = may-is ks (scope m) number in
       let same = ap (λ (x : Entry). x .answer) (out-is s (receive input room)) ∙ ap (λ (z : Decision). outBy s (receive input room) z .answer) d in
-      ((λ e. same ∙ j .0 (t ∙ e) ∙ ap (λ (b : Bool). ok (message m b)) (late-is ks (scope m) number)), λ e. same ∙ j .1 (t ∙ e) ∙ ap violation (wrong-is ks (scope m) number))
+      ((λ e. same ∙ j .0 (t ∙ e) ∙ ap (λ (b : Bool). ok (message m b)) (late-is ks (scope m) number)), λ e. same ∙ j .1 (t ∙ e) ∙ ap (λ (n : ℕ). violation (faultOf n)) (wrong-is ks (scope m) number))
 
   Both : List Entry → Entry → Message → Type 0
   Both a e m =
       (mayCome setup a (scope m) ≡ true → e .answer ≡ ok (message m (lateOf setup a (scope m))))
-      × (mayCome setup a (scope m) ≡ false → e .answer ≡ violation (wrongFor setup a (scope m)))
+      × (mayCome setup a (scope m) ≡ false → e .answer ≡ violation (faultOf (wrongFor setup a (scope m))))
 
   judged-log : (a : List Entry) (e : Entry) (input room : List ℕ) (m : Message) → At setup queue a e → e .call ≡ receive input room → Listening setup a (length room)
       → readMessage (otherEnd (setup .role)) input ≡ ok m → Both a e m

@@ -6,7 +6,7 @@ use Prim.Native.Nat.{ℕ, _≤_, _<_}
 use native.Mathlib.Omega.{arith}
 use lib.ListN.{length}
 use Rattle.laws.specs.Pick.{pick}
-use Rattle.laws.specs.Result.{violation}
+use Rattle.laws.specs.Result.{Fault, violation}
 use Rattle.laws.specs.Runs.{Every, gather}
 use Rattle.laws.proofs.Tests.{and-both}
 use Rattle.wire.specs.declared.Role.{Role}
@@ -38,8 +38,8 @@ use Rattle.history.proofs.Written.{sent-read-back, opening-read-back}
 use Rattle.history.proofs.Good.{setupOf, accountOf}
 
 pub record Broken (s : State) (k : Call) (b : Breach) : Type 0 where
-  pub ends-so : endedBy (b .cause) ≡ endTold k (violation (b .code))
-  pub means : b .reply ≡ meantBy (setupOf (s .connection)) (accountOf s 0) k (violation (b .code))
+  pub ends-so : endedBy (b .cause) ≡ endTold k (violation (b .fault))
+  pub means : b .reply ≡ meantBy (setupOf (s .connection)) (accountOf s 0) k (violation (b .fault))
 
 -- such a violation on a connection that is not over, and begun
 pub record Found (s : State) (k : Call) (b : Breach) : Type 0 where
@@ -50,18 +50,18 @@ pub record Found (s : State) (k : Call) (b : Breach) : Type 0 where
 -- ---- what a violation means: a lost line, answered with Error
 
 -- what we answer is what is told
-error-means : (z : Setup) (l : Line) (v : Seen) (k : Call) (n : ℕ) (st : Stage)
-    → errorAfter st (z .header) ≡ meantBy z (record { line = withGreeting (greetingOf st) l; seen = v }) k (violation n)
+error-means : (z : Setup) (l : Line) (v : Seen) (k : Call) (f : Fault) (st : Stage)
+    → errorAfter st (z .header) ≡ meantBy z (record { line = withGreeting (greetingOf st) l; seen = v }) k (violation f)
 unfolding pick
-error-means z l v k n (stage.Fresh r) = refl
-error-means z l v k n stage.Started = refl
-error-means z l v k n (stage.Up r far) = refl
+error-means z l v k f (stage.Fresh r) = refl
+error-means z l v k f stage.Started = refl
+error-means z l v k f (stage.Up r far) = refl
 
 -- by cases: our header, if it was not sent, and Error; or Error alone
-by-answer : (z : Setup) (a : Account) (k : Call) (n : ℕ) (P : List Output → Type 0)
-    → (ungreeted (a .line .greeting) ≡ true → P (header-out (z .header) ∷ sent (msg.Error 0) ∷ [])) → P (sent (msg.Error 0) ∷ []) → P (meantBy z a k (violation n))
+by-answer : (z : Setup) (a : Account) (k : Call) (f : Fault) (P : List Output → Type 0)
+    → (ungreeted (a .line .greeting) ≡ true → P (header-out (z .header) ∷ sent (msg.Error 0) ∷ [])) → P (sent (msg.Error 0) ∷ []) → P (meantBy z a k (violation f))
 unfolding pick
-by-answer z a k n P opening alone = go (ungreeted (a .line .greeting)) refl
+by-answer z a k f P opening alone = go (ungreeted (a .line .greeting)) refl
   where
     go : (u : Bool) → ungreeted (a .line .greeting) ≡ u → P (pick u (header-out (z .header) ∷ []) [] ++ (sent (msg.Error 0) ∷ []))
     go true q = opening q
@@ -73,10 +73,10 @@ Told s k (violate b) = Broken s k b
 Told s k (accept e) = Unit {0}
 
 -- a violation that we find is as the log tells it
-pub breach-told : (s : State) (input room : List ℕ) (n : ℕ) → Told s (receive input room) (breach (s .connection) n)
-breach-told s input room n =
+pub breach-told : (s : State) (input room : List ℕ) (f : Fault) → Told s (receive input room) (breach (s .connection) f)
+breach-told s input room f =
     let a = accountOf s 0 in
-    record { ends-so = refl; means = error-means (setupOf (s .connection)) (a .line) (a .seen) (receive input room) n (s .connection .stage) }
+    record { ends-so = refl; means = error-means (setupOf (s .connection)) (a .line) (a .seen) (receive input room) f (s .connection .stage) }
 
 -- ---- Error, and our header before it
 
@@ -100,26 +100,26 @@ begun-server (stage.Up r far) u e = absurd (false≢true u)
 
 -- ---- what is written
 
-violation-reads : (z : Setup) (a : Account) (k : Call) (n : ℕ) (r : Role) (payload : List ℕ) → z .header < 65_536
-    → ReadInOrder r (bytesOfAll payload (meantBy z a k (violation n))) (meantBy z a k (violation n))
-violation-reads z a k n r payload h =
-    by-answer z a k n (λ os. ReadInOrder r (bytesOfAll payload os) os) (λ _. opening-read-back r (z .header) payload (sent (msg.Error 0) ∷ []) h (error-read r payload)) (error-read r payload)
+violation-reads : (z : Setup) (a : Account) (k : Call) (f : Fault) (r : Role) (payload : List ℕ) → z .header < 65_536
+    → ReadInOrder r (bytesOfAll payload (meantBy z a k (violation f))) (meantBy z a k (violation f))
+violation-reads z a k f r payload h =
+    by-answer z a k f (λ os. ReadInOrder r (bytesOfAll payload os) os) (λ _. opening-read-back r (z .header) payload (sent (msg.Error 0) ∷ []) h (error-read r payload)) (error-read r payload)
 
 -- header and Error are read as two, Error alone as one
-pub violation-written : (z : Setup) (a : Account) (k : Call) (n : ℕ) (r : Role) (payload : List ℕ) → z .header < 65_536
-    → allWritten r (bytesOfAll payload (meantBy z a k (violation n))) ≡ meantBy z a k (violation n)
-violation-written z a k n r payload h = written-is r (bytesOfAll payload (meantBy z a k (violation n))) (meantBy z a k (violation n)) (violation-reads z a k n r payload h)
+pub violation-written : (z : Setup) (a : Account) (k : Call) (f : Fault) (r : Role) (payload : List ℕ) → z .header < 65_536
+    → allWritten r (bytesOfAll payload (meantBy z a k (violation f))) ≡ meantBy z a k (violation f)
+violation-written z a k f r payload h = written-is r (bytesOfAll payload (meantBy z a k (violation f))) (meantBy z a k (violation f)) (violation-reads z a k f r payload h)
 
 module _ (s : State) (k : Call) (b : Breach) where
   abbrev meant : List Output
-  meant = meantBy (setupOf (s .connection)) (accountOf s 0) k (violation (b .code))
+  meant = meantBy (setupOf (s .connection)) (accountOf s 0) k (violation (b .fault))
 
   abbrev payload : List ℕ
   payload = payloadOf (s .queue) k (violate b)
 
   by-reply : Broken s k b → (P : List Output → Type 0)
       → (ungreeted (greetingOf (s .connection .stage)) ≡ true → P (header-out (s .connection .own) ∷ sent (msg.Error 0) ∷ [])) → P (sent (msg.Error 0) ∷ []) → P (b .reply)
-  by-reply h P opening alone = subst P (sym (h .means)) (by-answer (setupOf (s .connection)) (accountOf s 0) k (b .code) P opening alone)
+  by-reply h P opening alone = subst P (sym (h .means)) (by-answer (setupOf (s .connection)) (accountOf s 0) k (b .fault) P opening alone)
 
   pub broken-no-data : Broken s k b → dataWritten (setupOf (s .connection)) (outBy s k (violate b)) ≡ []
   unfolding gather bytesOfAll writtenUpTo readMessage readConnectionHeader parseConnectionHeader parseHeader typed allowed kindOf pick
@@ -132,13 +132,13 @@ module _ (s : State) (k : Call) (b : Breach) where
   pub broken-reads : Broken s k b → s .connection .own < 65_536 → ReadInOrder (roleOf (s .connection .stage)) (outBy s k (violate b) .wrote) meant
   broken-reads h own =
       let r = roleOf (s .connection .stage) in
-      subst (λ (os : List Output). ReadInOrder r (bytesOfAll payload os) meant) (sym (h .means)) (violation-reads (setupOf (s .connection)) (accountOf s 0) k (b .code) r payload own)
+      subst (λ (os : List Output). ReadInOrder r (bytesOfAll payload os) meant) (sym (h .means)) (violation-reads (setupOf (s .connection)) (accountOf s 0) k (b .fault) r payload own)
 
   -- what is meant may go
   pub found-goes : Found s k b → Every (mayGo (setupOf (s .connection)) (accountOf s 0) (outBy s k (violate b))) meant
   unfolding Every
   found-goes h =
-      by-answer (setupOf (s .connection)) (accountOf s 0) k (b .code) (λ os. Every (mayGo (setupOf (s .connection)) (accountOf s 0) (outBy s k (violate b))) os)
+      by-answer (setupOf (s .connection)) (accountOf s 0) k (b .fault) (λ os. Every (mayGo (setupOf (s .connection)) (accountOf s 0) (outBy s k (violate b))) os)
       (λ fresh. (and-both (and-both (ap not (h .live)) fresh) (begun-server (s .connection .stage) fresh (h .begun)), (and-both (ap not (h .live)) refl, tt)))
       (and-both (ap not (h .live)) refl, tt)
 
@@ -146,5 +146,5 @@ module _ (s : State) (k : Call) (b : Breach) where
   pub broken-bytes : Broken s k b → outBy s k (violate b) .wrote ≡ errorBytes (s .connection .stage) (s .connection .own)
   broken-bytes h =
       let a = accountOf s 0 in
-      ap (bytesOfAll payload) (h .means ∙ sym (error-means (setupOf (s .connection)) (a .line) (a .seen) k (b .code) (s .connection .stage)))
+      ap (bytesOfAll payload) (h .means ∙ sym (error-means (setupOf (s .connection)) (a .line) (a .seen) k (b .fault) (s .connection .stage)))
       ∙ error-bytes payload (s .connection .stage) (s .connection .own)

@@ -38,7 +38,7 @@ lineByReport l k (message m late) = lineByMessage l (scope m)
 abbrev pub lineByAnswer : Line → Call → Result Report → Line
 lineByAnswer l k (ok r) = lineByReport l k r
 lineByAnswer l k (refused n) = l
-lineByAnswer l k (violation n) = lineOver l
+lineByAnswer l k (violation f) = lineOver l
 
 abbrev pub lineAfter : Line → Entry → Line
 lineAfter l e = lineByAnswer l (e .call) (e .answer)
@@ -65,12 +65,12 @@ outputSeen n (sent m) = inScope n wrote (scope m)
 abbrev pub toldBy : ℕ → Call → Result Report → List Event
 toldBy n k (ok p) = reported n k p
 toldBy n k (refused j) = []
-toldBy n k (violation j) = []
+toldBy n k (violation f) = []
 
 abbrev pub eventsByAnswer : Role → ℕ → Call → List ℕ → Result Report → List Event
 eventsByAnswer r n k bytes (ok p) = reported n k p ++ gather (outputSeen n) (allWritten r bytes)
 eventsByAnswer r n k bytes (refused j) = []
-eventsByAnswer r n k bytes (violation j) = []
+eventsByAnswer r n k bytes (violation f) = []
 
 abbrev pub events : Role → ℕ → Entry → List Event
 events r n e = eventsByAnswer r n (e .call) (e .wrote) (e .answer)
@@ -90,7 +90,7 @@ reportedOf k (message m late) = sessionIn (scope m)
 abbrev pub concerned : Call → Result Report → ℕ
 concerned k (ok p) = reportedOf k p
 concerned k (refused j) = 0
-concerned k (violation j) = 0
+concerned k (violation f) = 0
 
 -- ---- all that a log tells about a number
 

@@ -7,7 +7,7 @@ use mathlib.Core.Bool.{Bool, true, false, not, _&&_, _||_}
 use mathlib.Core.List.{List, [], _∷_, _++_}
 use lib.ListN.{length, take, drop, getD}
 use lib.Dec.{eqb}
-use Rattle.laws.specs.Result.{Result, ok, refused, violation}
+use Rattle.laws.specs.Result.{Fault, Result, ok, refused, violation}
 use Rattle.laws.specs.Circle.{nearest}
 use Rattle.laws.specs.Runs.{Every, gather, times}
 use Rattle.ration.specs.declared.Ration.{Ration}
@@ -28,7 +28,7 @@ use Rattle.protocol.specs.Slot.{slotSize, queueSize, turnRoom}
 use Rattle.protocol.specs.Queue.{slot}
 use Rattle.protocol.specs.Message.{ConnectionMessage, no-operation-of, shutdown-of, error-of, ping-of, ping-ack-of, data-of, increment-of, abort-of, close-of, acknowledgment-of, numbered, Scope, whole, of-session, scope}
 use Rattle.protocol.specs.Connection.{otherEnd, at, wellFormed}
-use Rattle.protocol.specs.Judge.{Report, done, served, header-received, message, Output, header-out, sent}
+use Rattle.protocol.specs.Judge.{Report, done, served, header-received, message, Output, header-out, sent, faultOf}
 use Rattle.protocol.specs.Observed.{Pinging, greeted, awaits, Sending, silent, sending, isReady, anyLapse, ends, established, dueData, lateFor, mayArrive, wrongNumber}
 use Rattle.protocol.specs.Fate.{fateOf}
 use Rattle.protocol.specs.Totals.{blankLedger, Balanced, Covers}
@@ -38,6 +38,7 @@ use Rattle.history.specs.Written.{allWritten}
 use Rattle.history.specs.Meaning.{meaning}
 use Rattle.history.specs.Account.{Account, lineAfter, events, concerned, farOf, observed, blankAccount}
 use Rattle.history.specs.Held.{accountOf}
+use Rattle.history.specs.Faults.{ReceiveFault}
 use Rattle.history.specs.Answers.{answerTold}
 use Rattle.history.specs.Meant.{headerDue, meantBy, ReadInOrder, mayGo}
 use Rattle.history.specs.Sums.{summed}
@@ -171,19 +172,20 @@ takesInput (ok (served n)) = false
 takesInput (ok (header-received far)) = true
 takesInput (ok (message m late)) = true
 takesInput (refused n) = false
-takesInput (violation n) = false
+takesInput (violation f) = false
 
 pub record RefusedLeaves (s : State) (k : Call) : Type 0 where
   -- below 20 nothing changes and nothing is written, and the room stays as lent
   pub refusal : (n : ℕ) → out s k .answer ≡ refused n → (n < 20) × (next s k ≡ s) × (out s k .wrote ≡ []) × (called s k .2 ≡ roomOf k)
   -- from 20 up only over and outcomes change, and Error, or header and Error, is written
-  pub violated : (n : ℕ) → out s k .answer ≡ violation n
-      → (20 ≤ n) × OnlyOver (s .connection) (next s k .connection) × (next s k .queue ≡ s .queue)
+  pub violated : (f : Fault) → out s k .answer ≡ violation f
+      → (20 ≤ f .number) × OnlyOver (s .connection) (next s k .connection) × (next s k .queue ≡ s .queue)
       × (out s k .wrote ≡ errorBytes (s .connection .stage) (s .connection .own))
   -- input is used only for a header or a message that is taken
   pub unused : takesInput (out s k .answer) ≡ false → (out s k .used ≡ 0) × (out s k .start ≡ 0) × (out s k .end ≡ 0)
-  -- only a receive finds a violation
-  pub receives : (n : ℕ) → out s k .answer ≡ violation n → (input room : List ℕ) × (k ≡ receive input room)
+  -- only a receive finds a violation, and its number and place say what is wrong with the input
+  pub receives : (f : Fault) → out s k .answer ≡ violation f
+      → (input room : List ℕ) × (k ≡ receive input room) × ReceiveFault (s .connection .stage) input f
 
 -- a call by which the connection is over changes nothing else except outcomes, whatever ends it
 abbrev pub OverLeaves : State → Call → Type 0
@@ -251,7 +253,7 @@ pub record TakesExactly (s : Setup) (log : List Entry) : Type 0 where
       → mayCome s a (scope m) ≡ true → e .answer ≡ ok (message m (lateOf s a (scope m)))
   pub else-violated : (a c : List Entry) (e : Entry) (input room : List ℕ) (m : Message) → log ≡ a ++ (e ∷ c) → e .call ≡ receive input room
       → Listening s a (length room) → readMessage (otherEnd (s .role)) input ≡ ok m
-      → mayCome s a (scope m) ≡ false → e .answer ≡ violation (wrongFor s a (scope m))
+      → mayCome s a (scope m) ≡ false → e .answer ≡ violation (faultOf (wrongFor s a (scope m)))
   -- and only there
   pub only : (a c : List Entry) (e : Entry) (input room : List ℕ) (m : Message) (late : Bool) → log ≡ a ++ (e ∷ c) → e .call ≡ receive input room
       → e .answer ≡ ok (message m late)
@@ -268,7 +270,7 @@ pub record Awaiting (s : Setup) (a : List Entry) (room : ℕ) : Type 0 where
 abbrev pub headerAnswer : Result ℕ → Result Report
 headerAnswer (ok far) = ok (header-received far)
 headerAnswer (refused n) = refused n
-headerAnswer (violation n) = violation n
+headerAnswer (violation f) = violation f
 
 -- a report of what is at the front of the input, with its bytes and the place of its payload
 abbrev pub ReportsFront : Setup → List ℕ → Entry → Report → Type 0
@@ -289,8 +291,8 @@ pub record ReceiveReads (s : Setup) (log : List Entry) : Type 0 where
       → e .answer ≡ ok (header-received far) → Awaiting s a (length room)
   pub short : (a c : List Entry) (e : Entry) (input room : List ℕ) (n : ℕ) → log ≡ a ++ (e ∷ c) → e .call ≡ receive input room
       → Listening s a (length room) → readMessage (otherEnd (s .role)) input ≡ refused n → e .answer ≡ refused n
-  pub broken : (a c : List Entry) (e : Entry) (input room : List ℕ) (n : ℕ) → log ≡ a ++ (e ∷ c) → e .call ≡ receive input room
-      → Listening s a (length room) → readMessage (otherEnd (s .role)) input ≡ violation n → e .answer ≡ violation n
+  pub broken : (a c : List Entry) (e : Entry) (input room : List ℕ) (f : Fault) → log ≡ a ++ (e ∷ c) → e .call ≡ receive input room
+      → Listening s a (length room) → readMessage (otherEnd (s .role)) input ≡ violation f → e .answer ≡ violation f
 
 -- ---- what a call writes is what it means, the other end reads it back, and it may be sent then
 

@@ -29,7 +29,7 @@ endTold k (ok (served n)) = not-ended
 endTold k (ok (header-received far)) = not-ended
 endTold k (ok (message m late)) = endedByMessage (scope m)
 endTold k (refused n) = not-ended
-endTold k (violation n) = by-lost-line
+endTold k (violation f) = by-lost-line
 
 -- ---- the fate of a number
 

@@ -4,7 +4,7 @@ use Prim.Native.Nat.{ℕ}
 use mathlib.Core.Path.{_≡_}
 use mathlib.Core.Bool.{Bool, true}
 use mathlib.Core.List.{List}
-use Rattle.laws.specs.Result.{ok, violation}
+use Rattle.laws.specs.Result.{Fault, ok, violation}
 use Rattle.wire.specs.declared.Message.the-variants as msg
 use Rattle.protocol.specs.Judge.{done, message}
 use Rattle.history.specs.Log.{abort, shutdown, lost, Entry}
@@ -18,4 +18,4 @@ pub data Lapsed (n : ℕ) (e : Entry) : Type 0 where
   own-shutdown-lapses : (room : List ℕ) → e .call ≡ shutdown room → e .answer ≡ ok done → Lapsed n e
   shutdown-lapses : (late : Bool) (detail : ℕ) → e .answer ≡ ok (message (msg.Shutdown detail) late) → Lapsed n e
   error-lapses : (late : Bool) (detail : ℕ) → e .answer ≡ ok (message (msg.Error detail) late) → Lapsed n e
-  violation-lapses : (number : ℕ) → e .answer ≡ violation number → Lapsed n e
+  violation-lapses : (f : Fault) → e .answer ≡ violation f → Lapsed n e

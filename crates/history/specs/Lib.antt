@@ -9,4 +9,5 @@ pub mod Sums
 pub mod Fates
 pub mod Answers
 pub mod Lapsed
+pub mod Faults
 pub mod Claims

@@ -64,7 +64,7 @@ meantOfAll s k (message m late) = answerOfAll (scope m)
 abbrev pub meantBy : Setup → Account → Call → Result Report → List Output
 meantBy s a k (ok p) = meantOfAll s k p ++ map (λ m. sent (numbered (concerned k (ok p)) m)) (meantFor (s .role) k p (a .seen))
 meantBy s a k (refused n) = []
-meantBy s a k (violation n) = pick (ungreeted (a .line .greeting)) (header-out (s .header) ∷ []) [] ++ (sent (msg.Error 0) ∷ [])
+meantBy s a k (violation f) = pick (ungreeted (a .line .greeting)) (header-out (s .header) ∷ []) [] ++ (sent (msg.Error 0) ∷ [])
 
 -- ---- what is read
 
@@ -91,12 +91,12 @@ takesPing k (ok (served n)) = false
 takesPing k (ok (header-received far)) = false
 takesPing k (ok (message m late)) = isPing k (scope m)
 takesPing k (refused n) = false
-takesPing k (violation n) = false
+takesPing k (violation f) = false
 
 abbrev pub isViolation : Result Report → Bool
 isViolation (ok r) = false
 isViolation (refused n) = false
-isViolation (violation n) = true
+isViolation (violation f) = true
 
 -- answers with which our header may be sent: a client's call that reports nothing, or a server's that takes the far header or finds it bad
 abbrev pub greets : Role → Result Report → Bool
@@ -105,7 +105,7 @@ greets r (ok (served n)) = false
 greets r (ok (header-received far)) = isServer r
 greets r (ok (message m late)) = false
 greets r (refused n) = false
-greets r (violation n) = isServer r
+greets r (violation f) = isServer r
 
 -- a PingAck answers one Ping, a Shutdown is a server's, an Error answers a violation; nothing but an Error is sent before the headers are
 -- exchanged

@@ -13,12 +13,12 @@ use Rattle.protocol.specs.Judge.{Output, header-out, sent}
 abbrev pub messageIn : Result Message → List Output
 messageIn (ok m) = sent m ∷ []
 messageIn (refused n) = []
-messageIn (violation n) = []
+messageIn (violation f) = []
 
 abbrev pub headerIn : Result ℕ → List Output
 headerIn (ok n) = header-out n ∷ []
 headerIn (refused n) = []
-headerIn (violation n) = []
+headerIn (violation f) = []
 
 -- how many bytes it has
 abbrev pub sizeOf : Output → ℕ

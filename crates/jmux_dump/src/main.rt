@@ -11,8 +11,10 @@ use capture_rules::Step;
 use libc::STDERR_FILENO;
 use libc::STDIN_FILENO;
 use libc::STDOUT_FILENO;
+use refusal::Fault;
 use refusal::Refusal;
 use text_line::Line;
+use text_message::with_fault;
 use text_message::with_message;
 use wire::Message;
 use wire::Role;
@@ -72,6 +74,12 @@ fn put_refusal(place: usize, number: u8) -> bool {
     false
 }
 
+// Prints the line of a violation; its own place counts from the one that the line begins with.
+fn put_fault(place: usize, fault: Fault) -> bool {
+    put(with_fault(at(place), fault).text(b"\n"));
+    false
+}
+
 // Prints the number of the connection header; nothing else depends on it.
 fn put_header(capture: &[u8]) {
     match wire_connection_header::read_connection_header(capture) {
@@ -79,8 +87,8 @@ fn put_header(capture: &[u8]) {
         ReadHeader::Incomplete => {
             put_refusal(0, Refusal::Incomplete.number());
         }
-        ReadHeader::Violated(v) => {
-            put_refusal(0, v.number());
+        ReadHeader::Violated(fault) => {
+            put_fault(0, fault);
         }
     }
 }
@@ -91,7 +99,7 @@ fn put_step(place: usize, step: Step) -> Turn {
     let more = match next {
         Next::Message(m) => put_message(place, m),
         Next::Refused(r) => put_refusal(place, r.number()),
-        Next::Violated(v) => put_refusal(place, v.number()),
+        Next::Violated(fault) => put_fault(place, fault),
     };
     Turn {
         place: step.place,

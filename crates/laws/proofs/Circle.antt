@@ -80,7 +80,7 @@ gap-inj i k n hi hk hn e = go (ahead i k hi hk) (ahead i n hi hn) e
     go (inr a) (inl b) e′ = omega arith
     go (inr a) (inr b) e′ = omega arith
 
-following-lt : (i : ℕ) → following i < 128
+pub following-lt : (i : ℕ) → following i < 128
 unfolding following
 following-lt i = omega arith
 

@@ -3,6 +3,7 @@ use mathlib.Core.Path.{_≡_, refl}
 use mathlib.Core.Bool.{false}
 use mathlib.Core.List.{[]}
 use Prim.Native.Nat.{ℕ}
+use Rattle.laws.specs.Result.{Fault}
 use Rattle.wire.specs.declared.Message.the-variants as msg
 use Rattle.state.specs.declared.Side.{Side}
 use Rattle.state.specs.declared.Side.the-variants as side
@@ -68,7 +69,7 @@ error-idle x = refl
 pub lost-idle : Leaves line-lost sides.Idle outcome.Running outcome.MustNotRetry
 lost-idle x = refl
 
--- ---- which end it is: of every connection, a message of any length, a violation of any number
+-- ---- which end it is: of every connection, a message of any length, a violation of any number and place
 
 pub error-ends : (c : Connection) (length : ℕ)
     → judge c (msg.Error length) ≡ accept (ends-by c error-received (message (msg.Error length) false) [])
@@ -80,9 +81,9 @@ pub shutdown-ends : (c : Connection) (length : ℕ)
 unfolding judge settle
 shutdown-ends c length = refl
 
-pub violation-ends : (c : Connection) (n : ℕ)
-    → breach c n ≡ violate (record { code = n; cause = line-lost; reply = errorAfter (c .stage) (c .own) })
-violation-ends c n = refl
+pub violation-ends : (c : Connection) (f : Fault)
+    → breach c f ≡ violate (record { fault = f; cause = line-lost; reply = errorAfter (c .stage) (c .own) })
+violation-ends c f = refl
 
 pub lost-ends : (c : Connection) → lostRule c ≡ running c (take (ends-by c line-lost done []))
 unfolding lostRule

@@ -16,6 +16,8 @@ pub mod Exact
 pub mod Numbers
 pub mod Late
 pub mod Reports
+pub mod Faults
+pub mod Telling
 pub mod Endings
 pub mod Fates
 pub mod Legal

@@ -1,8 +1,9 @@
--- With which numbers the rules about one session refuse: a local call below 20 and not 14, a receipt from 20 up. From the rules, written out.
+-- With which numbers the rules refuse: a local call below 20 and not 14, what is received with 25 to 28, by its type. From the rules, written
+-- out.
 use mathlib.Core.Path.{_≡_, refl}
 use mathlib.Core.Bool.{Bool, true, false, not, _&&_}
 use Prim.Native.Nat.{ℕ}
-use lib.Dec.{eqb, ltb, leb}
+use lib.Dec.{eqb, ltb}
 use Rattle.ration.specs.declared.Ration.{Ration}
 use Rattle.wire.specs.declared.Role.{Role}
 use Rattle.wire.specs.declared.Role.the-variants as role
@@ -27,9 +28,6 @@ isLow n = not (eqb n 14) && ltb n 20
 
 abbrev pub Low : ℕ → Type 0
 Low n = isLow n ≡ true
-
-abbrev pub High : ℕ → Type 0
-High n = leb 20 n ≡ true
 
 pub open-low : (r : Role) (x : Session) → Stops Low (openAsk r x)
 unfolding openAsk
@@ -93,56 +91,58 @@ turn-low own far x = go (x .sides)
     go (sides.Live side.Finished t) = refl
     go (sides.Live side.Ended t) = refl
 
--- ---- receipts
+-- ---- what is received: 25 of any message of a session, 26 of Data, 27 of an IncrementRation, 28 of a PingAck, and no other number
 
-module _ (x : Session) where
-  data-high : (r : Role) (n : ℕ) (close : Bool) (o t : Side) → Stops High (dataTo r x n close o t)
-  data-high r n close side.Ended t = tt
-  data-high r n close side.Finished t = (refl, tt)
-  data-high r n true side.Open t = (refl, tt)
-  data-high r n false side.Open t = (refl, tt)
+module _ (P : SessionMessage → ℕ → Type 0) (h25 : (m : SessionMessage) → P m 25)
+    (h26 : (n : ℕ) (opens close eof ack : Bool) → P (data-of n opens close eof ack) 26) (h27 : (n : ℕ) → P (increment-of n) 27) (x : Session) where
+  data-numbers : (r : Role) (n : ℕ) (opens close eof ack : Bool) (o t : Side) → Stops (P (data-of n opens close eof ack)) (dataTo r x n close o t)
+  data-numbers r n opens close eof ack side.Ended t = tt
+  data-numbers r n opens close eof ack side.Finished t = (h26 n opens close eof ack, tt)
+  data-numbers r n opens true eof ack side.Open t = (h26 n opens true eof ack, tt)
+  data-numbers r n opens false eof ack side.Open t = (h26 n opens false eof ack, tt)
 
-  increment-high : (n : ℕ) (o t : Side) → Stops High (incrementTo x n o t)
-  increment-high n side.Open t = (refl, tt)
-  increment-high n side.Finished t = tt
-  increment-high n side.Ended t = tt
+  increment-numbers : (n : ℕ) (o t : Side) → Stops (P (increment-of n)) (incrementTo x n o t)
+  increment-numbers n side.Open t = (h27 n, tt)
+  increment-numbers n side.Finished t = tt
+  increment-numbers n side.Ended t = tt
 
-  abort-high : (r : Role) (y : Session) (o t : Side) → Stops High (abortTo r y o t)
-  abort-high r y side.Open t = tt
-  abort-high role.Client y side.Finished t = tt
-  abort-high role.Server y side.Finished t = tt
-  abort-high r y side.Ended t = tt
+  abort-numbers : (r : Role) (p : Bool) (y : Session) (o t : Side) → Stops (P (abort-of p)) (abortTo r y o t)
+  abort-numbers r p y side.Open t = tt
+  abort-numbers role.Client p y side.Finished t = tt
+  abort-numbers role.Server p y side.Finished t = tt
+  abort-numbers r p y side.Ended t = tt
 
-  close-high : (r : Role) (y : Session) (o t : Side) → Stops High (closeTo r y o t)
-  close-high r y side.Open t = tt
-  close-high r y side.Finished t = tt
-  close-high r y side.Ended t = tt
+  close-numbers : (r : Role) (y : Session) (o t : Side) → Stops (P close-of) (closeTo r y o t)
+  close-numbers r y side.Open t = tt
+  close-numbers r y side.Finished t = tt
+  close-numbers r y side.Ended t = tt
 
-  arriving-high : (r : Role) (m : SessionMessage) (o : Side) (v : Move) → Stops High (arriving r x m o v)
-  arriving-high r m o wrong = refl
-  arriving-high r (data-of n opens close eof ack) o (to t) = data-high r n close o t
-  arriving-high r (increment-of n) o (to t) = increment-high n o t
-  arriving-high r (abort-of p) o (to t) = abort-high r (settled (aborted p) x) o t
-  arriving-high r close-of o (to t) = close-high r (settled outcome.Complete x) o t
-  arriving-high r acknowledgment-of o (to t) = tt
+  arriving-numbers : (r : Role) (m : SessionMessage) (o : Side) (v : Move) → Stops (P m) (arriving r x m o v)
+  arriving-numbers r m o wrong = h25 m
+  arriving-numbers r (data-of n opens close eof ack) o (to t) = data-numbers r n opens close eof ack o t
+  arriving-numbers r (increment-of n) o (to t) = increment-numbers n o t
+  arriving-numbers r (abort-of p) o (to t) = abort-numbers r p (settled (aborted p) x) o t
+  arriving-numbers r close-of o (to t) = close-numbers r (settled outcome.Complete x) o t
+  arriving-numbers r acknowledgment-of o (to t) = tt
 
-  other-high : (r : Role) (m : SessionMessage) (z : Sides) → Stops High (other r x m z)
-  other-high r m sides.Idle = refl
-  other-high r m (sides.Opening b) = refl
-  other-high r m (sides.Live o t) = arriving-high r m o (follow t m)
+  other-numbers : (r : Role) (m : SessionMessage) (z : Sides) → Stops (P m) (other r x m z)
+  other-numbers r m sides.Idle = h25 m
+  other-numbers r m (sides.Opening b) = h25 m
+  other-numbers r m (sides.Live o t) = arriving-numbers r m o (follow t m)
 
-  pub receipt-high : (r : Role) (own far : Ration) (m : SessionMessage) → Stops High (receipt r own far x m)
+  pub receipt-numbers : (r : Role) (own far : Ration) (m : SessionMessage) → Stops (P m) (receipt r own far x m)
   unfolding receipt
-  receipt-high r own far (data-of n true close eof ack) = (refl, (refl, tt))
-  receipt-high r own far (data-of n false close eof ack) = other-high r (data-of n false close eof ack) (x .sides)
-  receipt-high r own far (increment-of n) = other-high r (increment-of n) (x .sides)
-  receipt-high r own far (abort-of p) = other-high r (abort-of p) (x .sides)
-  receipt-high r own far close-of = other-high r close-of (x .sides)
-  receipt-high r own far acknowledgment-of = other-high r acknowledgment-of (x .sides)
+  receipt-numbers r own far (data-of n true close eof ack) = (h25 (data-of n true close eof ack), (h26 n true close eof ack, tt))
+  receipt-numbers r own far (data-of n false close eof ack) = other-numbers r (data-of n false close eof ack) (x .sides)
+  receipt-numbers r own far (increment-of n) = other-numbers r (increment-of n) (x .sides)
+  receipt-numbers r own far (abort-of p) = other-numbers r (abort-of p) (x .sides)
+  receipt-numbers r own far close-of = other-numbers r close-of (x .sides)
+  receipt-numbers r own far acknowledgment-of = other-numbers r acknowledgment-of (x .sides)
 
-pub whole-high : (c : Connection) (m : Message) (w : ConnectionMessage) → Stops High (judgeWhole c m w)
-whole-high c m no-operation-of = tt
-whole-high c m shutdown-of = tt
-whole-high c m error-of = tt
-whole-high c m (ping-of k) = tt
-whole-high c m (ping-ack-of k) = (refl, tt)
+pub whole-numbers : (P : ConnectionMessage → ℕ → Type 0) → ((k : ℕ) → P (ping-ack-of k) 28) → (c : Connection) (m : Message) (w : ConnectionMessage)
+    → Stops (P w) (judgeWhole c m w)
+whole-numbers P h28 c m no-operation-of = tt
+whole-numbers P h28 c m shutdown-of = tt
+whole-numbers P h28 c m error-of = tt
+whole-numbers P h28 c m (ping-of k) = tt
+whole-numbers P h28 c m (ping-ack-of k) = (h28 k, tt)

@@ -2,7 +2,9 @@
 -- result: each is given back.
 use mathlib.Core.Path.{_≡_, refl, sym, ap, _∙_}
 use Rattle.laws.specs.Result.{Result, ok, refused, violation}
-use Rattle.refusal.proofs.Distinct.{refusalOf, refusal-back, violationOf, violation-back}
+use Rattle.refusal.specs.declared.Fault.{Fault}
+use Rattle.refusal.specs.Number.{violationNumber}
+use Rattle.refusal.proofs.Distinct.{refusalOf, refusal-back, faultFor, fault-back}
 use Rattle.state.specs.declared.Answer.{Answer}
 use Rattle.state.specs.declared.Answer.the-variants as answer
 use Rattle.state.specs.declared.Called.{Called}
@@ -16,7 +18,7 @@ answerOf (ok (served n)) = answer.Served n
 answerOf (ok (header-received n)) = answer.Header n
 answerOf (ok (message m late)) = answer.Message m late
 answerOf (refused n) = answer.Refused (refusalOf n)
-answerOf (violation n) = answer.Violated (violationOf n)
+answerOf (violation f) = answer.Violated (faultFor f)
 
 given-back : (a : Answer) → answerOf (answerAs a) ≡ a
 given-back answer.Done = refl
@@ -24,10 +26,14 @@ given-back (answer.Served n) = refl
 given-back (answer.Header n) = refl
 given-back (answer.Message m late) = refl
 given-back (answer.Refused r) = ap answer.Refused (refusal-back r)
-given-back (answer.Violated v) = ap answer.Violated (violation-back v)
+given-back (answer.Violated f) = ap answer.Violated (fault-back f)
 
 pub same-answer : (a b : Answer) → answerAs a ≡ answerAs b → a ≡ b
 same-answer a b e = sym (given-back a) ∙ ap answerOf e ∙ given-back b
+
+-- a violation is told by the number and the place that its fault holds
+pub answer-says : (f : Fault) → answerAs (answer.Violated f) ≡ violation (record { number = violationNumber (f .violation); place = f .offset })
+answer-says f = refl
 
 called-path : {x y : Called} → x .connection ≡ y .connection → x .answer ≡ y .answer → x .used ≡ y .used → x .wrote ≡ y .wrote → x .start ≡ y .start
     → x .end ≡ y .end → x ≡ y

@@ -14,7 +14,7 @@ use Rattle.protocol.specs.Message.{ConnectionMessage, no-operation-of, s
 use Rattle.protocol.specs.Receipt.{receipt}
 use Rattle.protocol.specs.Ask.{turnAsk}
 use Rattle.protocol.specs.Connection.{at, roleOf, ownStart, farStart}
-use Rattle.protocol.specs.Judge.{served, message, sent, Effect, Decision, refuse, violate, accept, setting-session, breach, judgeWhole, judgeScope, judge}
+use Rattle.protocol.specs.Judge.{served, message, sent, Effect, Decision, refuse, violate, accept, setting-session, breachOf, judgeWhole, judgeScope, judge}
 use Rattle.protocol.specs.Call.{nextReady, turnRule}
 use Rattle.protocol.specs.Result.{extentOf, bytesOf}
 use Rattle.protocol.proofs.Plans.{Takes, takes-then, takes-all, takes-map, stops-all, settled}
@@ -48,11 +48,11 @@ whole-reports c m (ping-of k) = refl
 whole-reports c m (ping-ack-of k) = λ _. refl
 
 scope-tells : (c : Connection) (m : Message) (z : Scope) → Tells m (judgeScope c m z)
-scope-tells c m (whole w) = settled (Tells m) (breach c) accept (judgeWhole c m w) (stops-all (λ n. tt) (judgeWhole c m w))
+scope-tells c m (whole w) = settled (Tells m) (breachOf c) accept (judgeWhole c m w) (stops-all (λ n. tt) (judgeWhole c m w))
     (takes-map (λ e h. (false, h)) (judgeWhole c m w) (whole-reports c m w))
 scope-tells c m (of-session i x) =
     let p = receipt (roleOf (c .stage)) (ownStart c) (farStart c) (at c i) x in
-    settled (Tells m) (breach c) (λ t. accept (setting-session c i (c .last) (message m (t .late)) t)) p (stops-all (λ n. tt) p) (takes-all (λ t. (t .late, refl)) p)
+    settled (Tells m) (breachOf c) (λ t. accept (setting-session c i (c .last) (message m (t .late)) t)) p (stops-all (λ n. tt) p) (takes-all (λ t. (t .late, refl)) p)
 
 pub judge-tells : (c : Connection) (m : Message) → Tells m (judge c m)
 unfolding judge

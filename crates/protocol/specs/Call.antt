@@ -122,12 +122,12 @@ answering role.Server own = header-out own ∷ []
 abbrev pub headerTaken : Connection → Role → Result ℕ → Decision
 headerTaken c r (ok far) = accept (setting-stage c (stage.Up r far) (header-received far) (answering r (c .own)))
 headerTaken c r (refused n) = refuse n
-headerTaken c r (violation n) = breach c n
+headerTaken c r (violation f) = breach c f
 
 abbrev pub messageTaken : Connection → Result Message → Decision
 messageTaken c (ok m) = judge c m
 messageTaken c (refused n) = refuse n
-messageTaken c (violation n) = breach c n
+messageTaken c (violation f) = breach c f
 
 -- a connection header first, then messages from the other end
 abbrev pub reading : Connection → List ℕ → Stage → Decision

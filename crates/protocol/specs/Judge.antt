@@ -3,6 +3,8 @@ use Prim.Native.Nat.{ℕ}
 use mathlib.Core.Bool.{Bool, false, not}
 use mathlib.Core.List.{List, [], _∷_, map}
 use lib.Dec.{eqb}
+use Rattle.laws.specs.Pick.{pick}
+use Rattle.laws.specs.Result.{Fault, fault}
 use Rattle.wire.specs.declared.Message.{Message}
 use Rattle.wire.specs.declared.Message.the-variants as msg
 use Rattle.state.specs.declared.Session.{Session}
@@ -45,9 +47,9 @@ pub record Effect : Type 0 where
   pub report : Report
   pub outs : List Output
 
--- a violation has its number, the way in which it ends the connection, and its reply
+-- a violation has its number and place, the way in which it ends the connection, and its reply
 pub record Breach : Type 0 where
-  pub code : ℕ
+  pub fault : Fault
   pub cause : Cause
   pub reply : List Output
 
@@ -97,8 +99,19 @@ errorAfter stage.Started own = sent (msg.Error 0) ∷ []
 errorAfter (stage.Up r far) own = sent (msg.Error 0) ∷ []
 
 -- a violation found by us counts as a lost line
-abbrev pub breach : Connection → ℕ → Decision
-breach c n = violate (record { code = n; cause = line-lost; reply = errorAfter (c .stage) (c .own) })
+abbrev pub breach : Connection → Fault → Decision
+breach c f = violate (record { fault = f; cause = line-lost; reply = errorAfter (c .stage) (c .own) })
+
+-- the place at which a message that was read breaks a rule: the session number, byte 1, for 25; the length, the increment or the cookie,
+-- from byte 2 on, for 26, 27 and 28; no rule has another number
+abbrev pub placeOf : ℕ → ℕ
+placeOf n = pick (eqb n 25) 1 2
+
+abbrev pub faultOf : ℕ → Fault
+faultOf n = fault n (placeOf n)
+
+abbrev pub breachOf : Connection → ℕ → Decision
+breachOf c n = breach c (faultOf n)
 
 abbrev pub matches : Ping → ℕ → Bool
 matches ping.None k = false
@@ -114,9 +127,9 @@ judgeWhole c m (ping-ack-of k) = check (not (matches (c .ping) k)) 28 (take (set
 
 -- `m` is the message, as it is reported
 abbrev pub judgeScope : Connection → Message → Scope → Decision
-judgeScope c m (whole w) = settle (breach c) accept (judgeWhole c m w)
+judgeScope c m (whole w) = settle (breachOf c) accept (judgeWhole c m w)
 judgeScope c m (of-session i s) =
-    settle (breach c) (λ t. accept (setting-session c i (c .last) (message m (t .late)) t))
+    settle (breachOf c) (λ t. accept (setting-session c i (c .last) (message m (t .late)) t))
     (receipt (roleOf (c .stage)) (ownStart c) (farStart c) (at c i) s)
 
 unfoldable pub judge : Connection → Message → Decision

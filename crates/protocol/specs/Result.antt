@@ -5,7 +5,7 @@ use mathlib.Core.List.{List, [], _∷_, _++_}
 use lib.ListN.{length, take}
 use Rattle.laws.specs.Result.{Result, ok, refused, violation}
 use Rattle.laws.specs.Room.{overlaid}
-use Rattle.refusal.specs.Number.{refusalNumber, violationNumber}
+use Rattle.refusal.specs.Number.{refusalNumber, faultAs}
 use Rattle.wire.specs.declared.Message.{Message}
 use Rattle.wire.specs.Message as wire
 use Rattle.wire.specs.Message.{bodyLength}
@@ -29,7 +29,7 @@ answerAs (answer.Served n) = ok (served n)
 answerAs (answer.Header n) = ok (header-received n)
 answerAs (answer.Message m late) = ok (message m late)
 answerAs (answer.Refused r) = refused (refusalNumber r)
-answerAs (answer.Violated v) = violation (violationNumber v)
+answerAs (answer.Violated f) = violation (faultAs f)
 
 -- what a call gives beside the buffers
 pub record Given : Type 0 where
@@ -98,7 +98,7 @@ giving c answer x bytes =
 -- a refusal leaves the connection as it is; a violation uses no input and ends the connection
 abbrev pub givenIn : Connection → List ℕ → Extent → Decision → Given
 givenIn c payload x (refuse n) = giving c (refused n) noInput []
-givenIn c payload x (violate b) = giving (ended (b .cause) c) (violation (b .code)) noInput (bytesOfAll payload (b .reply))
+givenIn c payload x (violate b) = giving (ended (b .cause) c) (violation (b .fault)) noInput (bytesOfAll payload (b .reply))
 givenIn c payload x (accept e) = giving (commit c e) (ok (e .report)) x (bytesOfAll payload (e .outs))
 
 -- as much of the input is used as the report says

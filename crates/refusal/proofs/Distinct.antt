@@ -1,4 +1,4 @@
--- No two refusals and no two violations have the same number: from a table that gives each back.
+-- No two refusals and no two violations have the same number, and no two faults say the same: from a table that gives each back.
 use mathlib.Core.Path.{_≡_, refl, sym, ap, _∙_}
 use mathlib.Core.List.{List, [], _∷_}
 use Prim.Native.Nat.{ℕ, _-_}
@@ -7,7 +7,9 @@ use Rattle.refusal.specs.declared.Refusal.{Refusal}
 use Rattle.refusal.specs.declared.Refusal.the-variants as refusal
 use Rattle.refusal.specs.declared.Violation.{Violation}
 use Rattle.refusal.specs.declared.Violation.the-variants as violation
-use Rattle.refusal.specs.Number.{refusalNumber, violationNumber}
+use Rattle.laws.specs.Result as laws
+use Rattle.refusal.specs.declared.Fault.{Fault}
+use Rattle.refusal.specs.Number.{refusalNumber, violationNumber, faultAs}
 
 -- the refusal of each number from 0 on; a number that no refusal has stands for the first
 refusals : List Refusal
@@ -88,3 +90,19 @@ violation-back violation.UnaskedPingAck = refl
 
 pub same-violation : (a b : Violation) → violationNumber a ≡ violationNumber b → a ≡ b
 same-violation a b e = sym (violation-back a) ∙ ap violationOf e ∙ violation-back b
+
+-- the fault of the code that says a number and a place
+pub faultFor : laws.Fault → Fault
+faultFor f = record { violation = violationOf (f .number); offset = f .place }
+
+pub fault-back : (f : Fault) → faultFor (faultAs f) ≡ f
+unfolding faultFor
+fault-back f = ap (λ (v : Violation). record { violation = v; offset = f .offset }) (violation-back (f .violation))
+
+pub same-fault : (a b : Fault) → faultAs a ≡ faultAs b → a ≡ b
+same-fault a b e = sym (fault-back a) ∙ ap faultFor e ∙ fault-back b
+
+-- a fault of the code says its violation's number and, as its place, its offset
+pub fault-says : (v : Violation) (at : ℕ)
+    → (faultAs (record { violation = v; offset = at }) .number ≡ violationNumber v) × (faultAs (record { violation = v; offset = at }) .place ≡ at)
+fault-says v at = (refl, refl)

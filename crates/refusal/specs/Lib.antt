@@ -1,2 +1,2 @@
--- The numbers of refusals and violations.
+-- The numbers of refusals and violations, and what a fault says.
 pub mod Number

@@ -1,9 +1,11 @@
--- The number of each refusal and each violation (docs/PROTOCOL.md, "Refusals" and "Violations").
+-- The number of each refusal and each violation, and what a fault says (docs/PROTOCOL.md, "Refusals" and "Violations").
 use Prim.Native.Nat.{ℕ}
+use Rattle.laws.specs.Result.{Fault, fault}
 use Rattle.refusal.specs.declared.Refusal.{Refusal}
 use Rattle.refusal.specs.declared.Refusal.the-variants as refusal
 use Rattle.refusal.specs.declared.Violation.{Violation}
 use Rattle.refusal.specs.declared.Violation.the-variants as violation
+use Rattle.refusal.specs.declared.Fault as declared
 
 abbrev pub refusalNumber : Refusal → ℕ
 refusalNumber refusal.NotExchanged = 1
@@ -30,3 +32,6 @@ violationNumber violation.WrongState = 25
 violationNumber violation.AboveRation = 26
 violationNumber violation.PastLargest = 27
 violationNumber violation.UnaskedPingAck = 28
+
+abbrev pub faultAs : declared.Fault → Fault
+faultAs f = fault (violationNumber (f .violation)) (f .offset)

@@ -1,6 +1,6 @@
-// Why a call is refused, and how a peer breaks the protocol, by name and by number.
+// Why a call is refused, and how a peer breaks the protocol, by name and by number, with the place of the byte at fault.
 ghost use mathlib.Core.Path.{_≡_};
-ghost use Rattle.refusal.specs.Number.{refusalNumber, violationNumber};
+ghost use Rattle.refusal.specs.Number.{refusalNumber, violationNumber, faultAs};
 
 // Why a call is refused. Such a call changes nothing.
 pub enum Refusal {
@@ -54,6 +54,12 @@ pub enum Violation {
     UnaskedPingAck,
 }
 
+// A violation, and where the byte at fault is: its offset from the first byte of the header. Refusals have no such byte.
+pub struct Fault {
+    pub violation: Violation,
+    pub offset: u16,
+}
+
 impl Refusal {
     pub fn number(self) -> u8
         ensures { λ r. ⌜ r ≡ refusalNumber self ⌝ }
@@ -91,5 +97,14 @@ impl Violation {
             Violation::PastLargest => 27,
             Violation::UnaskedPingAck => 28,
         }
+    }
+}
+
+impl Fault {
+    // The place of the byte at fault in the message or connection header, whose first byte is at 0.
+    pub fn place(self) -> u32
+        ensures { λ r. ⌜ r ≡ faultAs self .place ⌝ }
+    {
+        self.offset as u32
     }
 }

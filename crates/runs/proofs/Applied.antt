@@ -5,7 +5,7 @@ use mathlib.Core.List.{List, [], _∷_, _++_}
 use Prim.Native.Nat.{ℕ, _≤_, _<_, _+_}
 use native.Mathlib.Omega.{arith}
 use lib.ListN.{length, drop}
-use Rattle.laws.specs.Result.{ok, refused, violation}
+use Rattle.laws.specs.Result.{fault, ok, refused, violation}
 use Rattle.ration.specs.declared.Ration.the-variants as ration
 use Rattle.wire.specs.declared.Message.the-variants as msg
 use Rattle.state.specs.declared.Side.the-variants as side
@@ -19,6 +19,7 @@ use Rattle.history.specs.Log.{Call, open-session, put, finish, turn, ping, lost
 use Rattle.history.specs.Held.{accountOf}
 use Rattle.history.specs.Account.{Account}
 use Rattle.history.specs.Sums.{summed}
+use Rattle.history.specs.Faults.{ReceiveFault}
 use Rattle.history.specs.Claims.{OnlyOver, RestZero}
 use Rattle.history.proofs.Leaves.{refused-leaves}
 use Rattle.history.proofs.Ends.{over-leaves}
@@ -69,21 +70,21 @@ odd = receives (0x01 ∷ 0x00 ∷ 0x00 ∷ 0x00 ∷ [])
 pub violation-leaves : (20 ≤ 20) × OnlyOver (there .connection) (next there odd .connection) × (next there odd .queue ≡ there .queue)
     × (out there odd .wrote ≡ 0x08 ∷ 0x00 ∷ 0x00 ∷ 0x00 ∷ [])
 unfolding played
-violation-leaves = refused-leaves there odd .violated 20 refl
+violation-leaves = refused-leaves there odd .violated (fault 20 0) refl
 
 -- a server that has sent no header sends it before the Error
 pub bad-header-writes : out (run server queue []) (receives (zeros 8)) .wrote
     ≡ 0x4A ∷ 0x6D ∷ 0x75 ∷ 0x78 ∷ 0x01 ∷ 0x00 ∷ 0x04 ∷ 0x00 ∷ 0x08 ∷ 0x00 ∷ 0x00 ∷ 0x00 ∷ []
 unfolding played
-bad-header-writes = refused-leaves (run server queue []) (receives (zeros 8)) .violated 22 refl .3
+bad-header-writes = refused-leaves (run server queue []) (receives (zeros 8)) .violated (fault 22 0) refl .3
 
 pub no-input-used : (out there odd .used ≡ 0) × (out there odd .start ≡ 0) × (out there odd .end ≡ 0)
 unfolding played
 no-input-used = refused-leaves there odd .unused refl
 
-pub by-a-receive : (input room : List ℕ) × (odd ≡ receive input room)
+pub by-a-receive : (input room : List ℕ) × (odd ≡ receive input room) × ReceiveFault (there .connection .stage) input (fault 20 0)
 unfolding played
-by-a-receive = refused-leaves there odd .receives 20 refl
+by-a-receive = refused-leaves there odd .receives (fault 20 0) refl
 
 pub lost-leaves : OnlyOver (there .connection) (next there lost .connection) × (next there lost .queue ≡ there .queue)
 unfolding played

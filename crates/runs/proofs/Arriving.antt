@@ -5,13 +5,13 @@ use mathlib.Core.List.{List, [], _∷_, _++_}
 use Prim.Native.Nat.{ℕ, _≤_, _<_, _+_}
 use native.Mathlib.Omega.{arith}
 use lib.ListN.{length}
-use Rattle.laws.specs.Result.{ok, refused, violation}
+use Rattle.laws.specs.Result.{fault, ok, refused, violation}
 use Rattle.wire.specs.declared.Message.{Message}
 use Rattle.wire.specs.Connection.{readConnectionHeader}
 use Rattle.wire.specs.declared.Message.the-variants as msg
 use Rattle.protocol.specs.Message.{scope}
 use Rattle.protocol.specs.Judge.{done, header-received, message, sent}
-use Rattle.history.specs.Log.{Call, ping, turn, Entry, log, Proper}
+use Rattle.history.specs.Log.{Call, ping, turn, Entry, out, run, log, Proper}
 use Rattle.history.specs.Claims.{Listening, Awaiting, dataWritten, mayCome, accountBefore}
 use Rattle.history.specs.Meant.{mayGo}
 use Rattle.history.specs.Answers.{answerTold}
@@ -72,10 +72,10 @@ taken-there =
     takes-exactly server proper queue (opened-by ++ (receives sends-5 ∷ [])) .takes (log server queue opened-by) [] more sends-5 (zeros 12) data-of-5 refl refl
     listens refl refl
 
-pub broken-there : breaks sends-7 25 .answer ≡ violation 25
+pub broken-there : breaks sends-7 25 1 .answer ≡ violation (fault 25 1)
 unfolding played
 broken-there =
-    takes-exactly server proper queue (opened-by ++ (receives sends-7 ∷ [])) .else-violated (log server queue opened-by) [] (breaks sends-7 25) sends-7 (zeros 12)
+    takes-exactly server proper queue (opened-by ++ (receives sends-7 ∷ [])) .else-violated (log server queue opened-by) [] (breaks sends-7 25 1) sends-7 (zeros 12)
     (msg.Data false false false false 7 0) refl refl listens refl refl
 
 pub only-there : Listening server (log server queue opened-by) 12 × (mayCome server (log server queue opened-by) (scope data-of-5) ≡ true) × (false ≡ false)
@@ -124,11 +124,30 @@ short-there =
     receive-reads server proper queue (opened-by ++ (receives (0x80 ∷ 0x05 ∷ 0x00 ∷ []) ∷ [])) .short (log server queue opened-by) []
     (refuses (receives (0x80 ∷ 0x05 ∷ 0x00 ∷ [])) 10) (0x80 ∷ 0x05 ∷ 0x00 ∷ []) (zeros 12) 10 refl refl listens refl
 
-pub odd-there : breaks (0x01 ∷ 0x00 ∷ 0x00 ∷ 0x00 ∷ []) 20 .answer ≡ violation 20
+pub odd-there : breaks (0x01 ∷ 0x00 ∷ 0x00 ∷ 0x00 ∷ []) 20 0 .answer ≡ violation (fault 20 0)
 unfolding played
 odd-there =
     receive-reads server proper queue (opened-by ++ (receives (0x01 ∷ 0x00 ∷ 0x00 ∷ 0x00 ∷ []) ∷ [])) .broken (log server queue opened-by) []
-    (breaks (0x01 ∷ 0x00 ∷ 0x00 ∷ 0x00 ∷ []) 20) (0x01 ∷ 0x00 ∷ 0x00 ∷ 0x00 ∷ []) (zeros 12) 20 refl refl listens refl
+    (breaks (0x01 ∷ 0x00 ∷ 0x00 ∷ 0x00 ∷ []) 20 0) (0x01 ∷ 0x00 ∷ 0x00 ∷ 0x00 ∷ []) (zeros 12) (fault 20 0) refl refl listens refl
+
+-- an Acknowledgment whose last two bytes are not 0 breaks the layout at the first of them
+abbrev acknowledges-wrong : List ℕ
+acknowledges-wrong = 0x40 ∷ 0x05 ∷ 0x80 ∷ 0x01 ∷ []
+
+pub reserved-there : breaks acknowledges-wrong 21 2 .answer ≡ violation (fault 21 2)
+unfolding played
+reserved-there =
+    receive-reads server proper queue (opened-by ++ (receives acknowledges-wrong ∷ [])) .broken (log server queue opened-by) []
+    (breaks acknowledges-wrong 21 2) acknowledges-wrong (zeros 12) (fault 21 2) refl refl listens refl
+
+-- a header of version 2 whose last byte is not 0 is wrong at the version
+abbrev header-wrong : List ℕ
+header-wrong = 0x4A ∷ 0x6D ∷ 0x75 ∷ 0x78 ∷ 0x02 ∷ 0x00 ∷ 0x01 ∷ 0x01 ∷ []
+
+pub header-broken : out (run server queue []) (receives header-wrong) .answer ≡ violation (fault 22 4)
+unfolding played
+header-broken =
+    receive-reads server proper queue (receives header-wrong ∷ []) .headers [] [] (out (run server queue []) (receives header-wrong)) header-wrong (zeros 12) refl refl awaits
 
 -- ---- what a call answers and writes
 

@@ -14,11 +14,11 @@ use Rattle.history.specs.Log.{Call, finish, close, log}
 use Rattle.history.specs.Claims.{mayCome}
 use Rattle.runs.proofs.Played.{played, server, zeros, queue, receives, turns, taken, refuses, breaks}
 
--- the input is read as a message that may not come after the calls, and the next entry reports the violation
-pub record Breaks (calls : List Call) (input : List ℕ) (m : Message) (n : ℕ) : Type 0 where
+-- the input is read as a message that may not come after the calls, and the next entry reports the violation with its place
+pub record Breaks (calls : List Call) (input : List ℕ) (m : Message) (n place : ℕ) : Type 0 where
   pub is-read : readMessage role.Client input ≡ ok m
   pub not-allowed : mayCome server (log server queue calls) (scope m) ≡ false
-  pub adds : log server queue (calls ++ (receives input ∷ [])) ≡ log server queue calls ++ (breaks input n ∷ [])
+  pub adds : log server queue (calls ++ (receives input ∷ [])) ≡ log server queue calls ++ (breaks input n place ∷ [])
 
 -- "Jmux", version 1, header number 8; then a client opens 5 with three bytes, which leaves 1,021
 abbrev begun : List Call
@@ -32,22 +32,22 @@ abbrev largest-increment : List ℕ
 largest-increment = 0x1E ∷ 0x05 ∷ 0xFF ∷ 0xFF ∷ []
 
 -- Data for an idle number
-pub breaks-25 : Breaks begun (0x80 ∷ 0x06 ∷ 0x00 ∷ 0x00 ∷ []) (msg.Data false false false false 6 0) 25
+pub breaks-25 : Breaks begun (0x80 ∷ 0x06 ∷ 0x00 ∷ 0x00 ∷ []) (msg.Data false false false false 6 0) 25 1
 unfolding played
 breaks-25 = record { is-read = refl; not-allowed = refl; adds = refl }
 
 -- Data of 1,022 bytes
-pub breaks-26 : Breaks begun (0x80 ∷ 0x05 ∷ 0x03 ∷ 0xFE ∷ zeros 1_022) (msg.Data false false false false 5 1_022) 26
+pub breaks-26 : Breaks begun (0x80 ∷ 0x05 ∷ 0x03 ∷ 0xFE ∷ zeros 1_022) (msg.Data false false false false 5 1_022) 26 2
 unfolding played
 breaks-26 = record { is-read = refl; not-allowed = refl; adds = refl }
 
 -- a third increment passes the largest ration
-pub breaks-27 : Breaks (begun ++ (receives largest-increment ∷ receives largest-increment ∷ [])) largest-increment (msg.IncrementRation 7 5 65_535) 27
+pub breaks-27 : Breaks (begun ++ (receives largest-increment ∷ receives largest-increment ∷ [])) largest-increment (msg.IncrementRation 7 5 65_535) 27 2
 unfolding played
 breaks-27 = record { is-read = refl; not-allowed = refl; adds = refl }
 
 -- a PingAck where no ping is outstanding
-pub breaks-28 : Breaks begun (0x06 ∷ 0x00 ∷ 0x00 ∷ 0x00 ∷ []) (msg.PingAck 0) 28
+pub breaks-28 : Breaks begun (0x06 ∷ 0x00 ∷ 0x00 ∷ 0x00 ∷ []) (msg.PingAck 0) 28 2
 unfolding played
 breaks-28 = record { is-read = refl; not-allowed = refl; adds = refl }
 

@@ -3,7 +3,7 @@ use mathlib.Core.Path.{_≡_, refl}
 use mathlib.Core.Bool.{true, false}
 use mathlib.Core.List.{List, [], _∷_, _++_}
 use Prim.Native.Nat.{ℕ}
-use Rattle.laws.specs.Result.{violation}
+use Rattle.laws.specs.Result.{fault, violation}
 use Rattle.wire.specs.declared.Message.the-variants as msg
 use Rattle.state.specs.declared.Setup.{Setup}
 use Rattle.protocol.specs.Judge.{done, message}
@@ -96,7 +96,7 @@ error-received = record { is-ready = refl; adds = refl; is-lapse = refl }
 
 -- a violation: a Close from a client
 pub violated : Lapses server 5 accepted
-    (record { call = receives (0x30 ∷ 0x05 ∷ 0x00 ∷ 0x00 ∷ []); answer = violation 23; used = 0; start = 0; end = 0; wrote = 0x08 ∷ 0x00 ∷ 0x00 ∷ 0x00 ∷ [] })
+    (record { call = receives (0x30 ∷ 0x05 ∷ 0x00 ∷ 0x00 ∷ []); answer = violation (fault 23 0); used = 0; start = 0; end = 0; wrote = 0x08 ∷ 0x00 ∷ 0x00 ∷ 0x00 ∷ [] })
 unfolding played
 violated = record { is-ready = refl; adds = refl; is-lapse = refl }
 

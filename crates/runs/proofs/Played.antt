@@ -3,12 +3,13 @@ use mathlib.Core.List.{List, [], _∷_}
 use Prim.Native.Nat.{ℕ}
 use lib.ListN.{replicate}
 use Rattle.laws.specs.Pick.{pick}
-use Rattle.laws.specs.Result.{ok, refused, violation}
+use Rattle.laws.specs.Result.{fault, ok, refused, violation}
 use Rattle.laws.specs.Circle.{following, firstAfter, nearest}
 use Rattle.laws.specs.Runs.{run, logOf, fold, Every, gather}
 use Rattle.ration.specs.Ration.{fromHeader}
 use Rattle.wire.specs.declared.Role.the-variants as role
 use Rattle.wire.specs.FirstByte.{kindOf}
+use Rattle.wire.specs.Layout.{firstWrong}
 use Rattle.wire.specs.Message.{readMessage, parseHeader, typed, allowed, effectiveIncrement}
 use Rattle.wire.specs.Connection.{readConnectionHeader, parseConnectionHeader}
 use Rattle.state.specs.declared.Setup.{Setup}
@@ -29,7 +30,7 @@ use Rattle.history.specs.Fates.{fatedAfter, fateTold}
 
 -- whoever unfolds this unfolds the calls, their rules, the reader and what a log tells
 unfoldable pub played : Setup → List ℕ → List Call → List Entry
-unfolding run logOf fold Every gather pick following firstAfter nearest fromHeader kindOf readMessage parseHeader typed allowed effectiveIncrement
+unfolding run logOf fold Every gather pick following firstAfter nearest fromHeader kindOf firstWrong readMessage parseHeader typed allowed effectiveIncrement
     readConnectionHeader parseConnectionHeader settle wellFormed allFormed sessionFormed receipt ask.readySession openAsk putAsk finishAsk grantAsk abortAsk closeAsk turnAsk
     judge startRule openRule putRule finishRule turnRule grantRule abortRule closeRule pingRule shutdownRule lostRule receiveRule bytesOfAll
     startCall openCall putCall finishCall turnCall grantCall abortCall closeCall pingCall shutdownCall lostCall receiveCall next out accountAfter observed
@@ -78,6 +79,6 @@ took used input r bytes = record { call = receives input; answer = ok r; used = 
 abbrev pub refuses : Call → ℕ → Entry
 refuses k n = record { call = k; answer = refused n; used = 0; start = 0; end = 0; wrote = [] }
 
--- a violation: nothing is used, and Error is written
-abbrev pub breaks : List ℕ → ℕ → Entry
-breaks input n = record { call = receives input; answer = violation n; used = 0; start = 0; end = 0; wrote = 0x08 ∷ 0x00 ∷ 0x00 ∷ 0x00 ∷ [] }
+-- a violation by its number and place: nothing is used, and Error is written
+abbrev pub breaks : List ℕ → ℕ → ℕ → Entry
+breaks input n place = record { call = receives input; answer = violation (fault n place); used = 0; start = 0; end = 0; wrote = 0x08 ∷ 0x00 ∷ 0x00 ∷ 0x00 ∷ [] }

@@ -229,7 +229,7 @@ unfolding played
 late-increment = refl
 
 -- a Close from a server that has not finished
-pub close-too-early : Adds client sent (breaks (0x30 ∷ 0x05 ∷ 0x00 ∷ 0x00 ∷ []) 25)
+pub close-too-early : Adds client sent (breaks (0x30 ∷ 0x05 ∷ 0x00 ∷ 0x00 ∷ []) 25 1)
 unfolding played
 close-too-early = refl
 
@@ -239,6 +239,25 @@ unfolding played
 abort-answered = refl
 
 -- an Acknowledgment from a client that has terminated the session
-pub acknowledgment-after-the-end : Adds server (accepted ++ (receives (0x20 ∷ 0x05 ∷ 0x00 ∷ 0x00 ∷ []) ∷ [])) (breaks (0x40 ∷ 0x05 ∷ 0x00 ∷ 0x00 ∷ []) 25)
+pub acknowledgment-after-the-end : Adds server (accepted ++ (receives (0x20 ∷ 0x05 ∷ 0x00 ∷ 0x00 ∷ []) ∷ [])) (breaks (0x40 ∷ 0x05 ∷ 0x00 ∷ 0x00 ∷ []) 25 1)
 unfolding played
 acknowledgment-after-the-end = refl
+
+-- ---- what a client finds wrong, and where
+
+-- a header whose reserved byte is 1; a Close whose last byte is 1; an Abort for a number that is not open; a PingAck with another cookie
+pub client-bad-header : Adds client (starts ∷ []) (breaks (0x4A ∷ 0x6D ∷ 0x75 ∷ 0x78 ∷ 0x01 ∷ 0x00 ∷ 0x01 ∷ 0x01 ∷ []) 22 7)
+unfolding played
+client-bad-header = refl
+
+pub client-reserved-bit : Adds client sent (breaks (0x30 ∷ 0x05 ∷ 0x00 ∷ 0x01 ∷ []) 21 3)
+unfolding played
+client-reserved-bit = refl
+
+pub client-abort-of-idle : Adds client sent (breaks (0x20 ∷ 0x06 ∷ 0x00 ∷ 0x00 ∷ []) 25 1)
+unfolding played
+client-abort-of-idle = refl
+
+pub client-other-cookie : Adds client pinging (breaks (0x06 ∷ 0x00 ∷ 0x00 ∷ 0x02 ∷ []) 28 2)
+unfolding played
+client-other-cookie = refl

@@ -6,7 +6,7 @@ use Prim.Native.Nat.{ℕ, _≤_, _<_}
 use native.Mathlib.Omega.{arith}
 use lib.ListN.{drop, getD}
 use Rattle.laws.specs.Pick.{pick}
-use Rattle.laws.specs.Result.{Result, ok, refused, violation}
+use Rattle.laws.specs.Result.{Fault, Result, ok, refused, violation}
 use Rattle.laws.specs.Runs.{times}
 use Rattle.wire.specs.declared.Role.{Role}
 use Rattle.wire.specs.declared.Role.the-variants as role
@@ -106,10 +106,10 @@ may-go = (refl, refl, refl)
 -- ---- what the words say
 
 -- only a header and a message use input
-pub input-taken : (far number : ℕ) (m : Message) (late : Bool)
+pub input-taken : (far number : ℕ) (f : Fault) (m : Message) (late : Bool)
     → (takesInput (ok done) ≡ false) × (takesInput (ok (served number)) ≡ false) × (takesInput (ok (header-received far)) ≡ true)
-    × (takesInput (ok (message m late)) ≡ true) × (takesInput (refused number) ≡ false) × (takesInput (violation number) ≡ false)
-input-taken far number m late = (refl, refl, refl, refl, refl, refl)
+    × (takesInput (ok (message m late)) ≡ true) × (takesInput (refused number) ≡ false) × (takesInput (violation f) ≡ false)
+input-taken far number f m late = (refl, refl, refl, refl, refl, refl)
 
 -- what a local call answers is told without its answer
 pub told-alone : (s : Setup) (q : ℕ) (a : Account) (n k : ℕ) (b : Bool) (bytes room : List ℕ) (x y : Result Report)

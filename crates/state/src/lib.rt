@@ -3,8 +3,8 @@ ghost use mathlib.Core.Path.{_≡_};
 ghost use Rattle.state.specs.New.{fresh};
 ghost use Rattle.state.specs.With.{withSides, withRations, withWaiting, withOutcome, withStage, withPing};
 use ration::Ration;
+use refusal::Fault;
 use refusal::Refusal;
-use refusal::Violation;
 use wire::Message;
 use wire::Role;
 
@@ -84,7 +84,7 @@ pub enum Answer {
     Header(u16),
     Message { message: Message, late: bool },
     Refused(Refusal),
-    Violated(Violation),
+    Violated(Fault),
 }
 
 // What a call gives: the connection after it, the answer, the numbers of bytes used and written, and where in the input

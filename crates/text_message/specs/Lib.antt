@@ -1,2 +1,2 @@
--- The definition of a message's words.
+-- The definitions of the words of a message and of a fault.
 pub mod Message

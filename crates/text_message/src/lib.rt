@@ -1,9 +1,10 @@
-// The words of a message, put behind the end of a line of text.
+// The words of a message, and of a fault in one, put behind the end of a line of text.
+use refusal::Fault;
 use text_line::Line;
 use wire::Message;
 ghost use Rattle.wire.specs.declared.Message.the-variants.{IncrementRation, Abort, Data};
 ghost use Rattle.text_line.specs.Line.{lineText, added, LineIs};
-ghost use Rattle.text_message.specs.Message.{messageText};
+ghost use Rattle.text_message.specs.Message.{messageText, faultText};
 
 fn increment(line: Line, shift: u8, session: u8, increment: u16) -> Line
     ensures { λ r. ⌜ LineIs r (added (lineText line) (messageText (IncrementRation shift session increment))) ⌝ }
@@ -71,4 +72,13 @@ pub fn with_message(line: Line, m: Message) -> Line
             length,
         } => data(line, open, close, eof, ack_required, session, length),
     }
+}
+
+// The line with the number and the place of a violation behind its end.
+pub fn with_fault(line: Line, fault: Fault) -> Line
+    ensures { λ r. ⌜ LineIs r (added (lineText line) (faultText fault)) ⌝ }
+{
+    let violation = fault.violation;
+    line.item(b" refused ", violation.number() as u64)
+        .item(b" at ", fault.place() as u64)
 }

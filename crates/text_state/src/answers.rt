@@ -1,6 +1,7 @@
 // The words of an answer, put behind the end of a line of text.
 use state::Answer;
 use text_line::Line;
+use text_message::with_fault;
 use text_message::with_message;
 use wire::Message;
 ghost use Rattle.text_line.specs.Line.{lineText, added, LineIs};
@@ -26,6 +27,6 @@ pub fn answered(line: Line, answer: Answer, used: usize) -> Line
             .item(b" used ", used as u64),
         Answer::Message { message, late } => taken(line, message, late, used),
         Answer::Refused(r) => line.item(b" refused ", r.number() as u64),
-        Answer::Violated(v) => line.item(b" refused ", v.number() as u64),
+        Answer::Violated(fault) => with_fault(line, fault),
     }
 }

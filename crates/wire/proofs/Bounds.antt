@@ -8,7 +8,7 @@ use lib.ListN.{length, getD, take}
 use native.Mathlib.Nat.{mod-lt}
 use lib.Dec.{eqb, ltb, leb}
 use Rattle.laws.specs.Pick.{pick}
-use Rattle.laws.specs.Result.{Result, ok, refused, violation}
+use Rattle.laws.specs.Result.{fault, Result, ok, refused, violation}
 use Rattle.laws.proofs.Results.{ok-same, refused-not-ok, violation-not-ok}
 use Rattle.wire.specs.declared.Role.{Role}
 use Rattle.wire.specs.declared.Kind.{Kind}
@@ -18,7 +18,7 @@ use Rattle.wire.specs.declared.Named.the-variants.{Known, Unknown}
 use Rattle.wire.specs.declared.Message.{Message}
 use Rattle.wire.specs.Pattern.{x, -, bits, withBits}
 use Rattle.wire.specs.FirstByte.{kindOf}
-use Rattle.wire.specs.Layout.{layout, fixed, message, digits, initialRation}
+use Rattle.wire.specs.Layout.{layout, fixed, firstWrong, message, digits, initialRation}
 use Rattle.wire.specs.Message.{flagsAllowed, maySend, allowed, typed, parseHeader, bodyLength, withBody, readMessage, secondByte, numberOf, kindOfMessage}
 use Rattle.wire.specs.Connection.{connectionLayout, parseConnectionHeader, readConnectionHeader}
 use Rattle.wire.proofs.Inverse.{passed}
@@ -101,7 +101,7 @@ pub header-sent : (from : Role) (h : List ℕ) (m : Message) → parseHeader fro
 unfolding parseHeader typed pick
 header-sent from h m q = go (kindOf (getD h 0 0)) q
   where
-    by-kind : (k : Kind) (f : Bool) → pick f (allowed from k (message k h)) (violation 21) ≡ ok m → Sent from m
+    by-kind : (k : Kind) (f : Bool) → pick f (allowed from k (message k h)) (violation (fault 21 (firstWrong (layout k) h))) ≡ ok m → Sent from m
     by-kind k true p =
         let w = passed from k (message k h) m p in
         record {
@@ -139,7 +139,7 @@ pub parsed-number : (h : List ℕ) (n : ℕ) → parseConnectionHeader h ≡ ok 
 unfolding parseConnectionHeader pick
 parsed-number h n q = number (fixed connectionLayout h) q
   where
-    number : (b : Bool) → pick b (ok (digits initialRation connectionLayout h 0)) (violation 22) ≡ ok n → n < 65_536
+    number : (b : Bool) → pick b (ok (digits initialRation connectionLayout h 0)) (violation (fault 22 (firstWrong connectionLayout h))) ≡ ok n → n < 65_536
     number true p = subst (λ (k : ℕ). k < 65_536) (ok-same p) (wide-bound (getD h 5 0) (getD h 6 0))
     number false p = absurd (violation-not-ok p)
 
@@ -156,7 +156,7 @@ header-number s n q = go (ltb (length s) 8) q
 abbrev pub Only : {A : Type 0} → (ℕ → Bool) → Result A → Type 0
 Only v (ok a) = Unit {0}
 Only v (refused n) = n ≡ 10
-Only v (violation n) = v n ≡ true
+Only v (violation f) = v (f .number) ≡ true
 
 either : {A : Type 0} (v : ℕ → Bool) (p q : Result A) (b : Bool) → Only v p → Only v q → Only v (pick b p q)
 unfolding pick
@@ -168,9 +168,9 @@ module _ (v : ℕ → Bool) (h20 : v 20 ≡ true) (h21 : v 21 ≡ true) (h23 : v
   unfolding typed allowed
   typed-only h (Known k) =
       let m = message k h in
-      let flags = either v (ok m) (violation 24) (flagsAllowed from m) tt h24 in
-      let sender = either v (pick (flagsAllowed from m) (ok m) (violation 24)) (violation 23) (maySend from k) flags h23 in
-      either v (allowed from k m) (violation 21) (fixed (layout k) h) sender h21
+      let flags = either v (ok m) (violation (fault 24 0)) (flagsAllowed from m) tt h24 in
+      let sender = either v (pick (flagsAllowed from m) (ok m) (violation (fault 24 0))) (violation (fault 23 0)) (maySend from k) flags h23 in
+      either v (allowed from k m) (violation (fault 21 (firstWrong (layout k) h))) (fixed (layout k) h) sender h21
   typed-only h Unknown = h20
 
   parsed-only : (h : List ℕ) → Only v (parseHeader from h)
@@ -207,7 +207,7 @@ message-short from s = message-only (leb 20) refl refl refl refl from s
 
 pub connection-short : (h : List ℕ) → ShortOnly (parseConnectionHeader h)
 unfolding parseConnectionHeader
-connection-short h = either (leb 20) (ok (digits initialRation connectionLayout h 0)) (violation 22) (fixed connectionLayout h) tt refl
+connection-short h = either (leb 20) (ok (digits initialRation connectionLayout h 0)) (violation (fault 22 (firstWrong connectionLayout h))) (fixed connectionLayout h) tt refl
 
 pub header-short : (s : List ℕ) → ShortOnly (readConnectionHeader s)
 unfolding readConnectionHeader

@@ -9,13 +9,13 @@ use lib.ListN.{length, getD, take, length-append, length-take}
 use lib.Dec.{eqb, ltb}
 use borrow.Author.Tests.{ltb-false, eqb-true}
 use Rattle.laws.specs.Pick.{pick}
-use Rattle.laws.specs.Result.{ok, refused, violation}
+use Rattle.laws.specs.Result.{fault, ok, refused, violation}
 use Rattle.laws.proofs.Tests.{and-first, and-second}
 use Rattle.laws.proofs.Results.{ok-same, refused-not-ok, violation-not-ok}
 use Rattle.laws.proofs.Words.{high, low, joined}
 use Rattle.laws.proofs.Lists.{Bytes, bytes-cons, elements, take-elements}
 use Rattle.wire.specs.Back.{NumberBack}
-use Rattle.wire.specs.Layout.{fixed, digits, initialRation}
+use Rattle.wire.specs.Layout.{fixed, firstWrong, digits, initialRation}
 use Rattle.wire.specs.Connection.{connectionLayout, parseConnectionHeader, readConnectionHeader, connectionHeader}
 use Rattle.wire.proofs.Tables.{two-bytes, header-fixed}
 use Rattle.wire.proofs.Reading.{header-short, header-long, number-ok}
@@ -58,7 +58,7 @@ tests-same {a} {b} {c} {d} {v} {r} e h l =
 
 module _ (s : List ℕ) (n : ℕ) (bytes : Bytes s) where
   number-held : (b : Bool) → fixed connectionLayout (elements 8 0 s) ≡ b
-      → pick b (ok (digits initialRation connectionLayout (elements 8 0 s) 0)) (violation 22) ≡ ok n
+      → pick b (ok (digits initialRation connectionLayout (elements 8 0 s) 0)) (violation (fault 22 (firstWrong connectionLayout (elements 8 0 s)))) ≡ ok n
       → (n ≡ getD s 5 0 * 256 + getD s 6 0) × (connectionHeader n ≡ elements 8 0 s)
   unfolding pick
   number-held true e p =

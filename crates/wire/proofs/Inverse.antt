@@ -9,7 +9,7 @@ use native.Mathlib.Omega.{arith}
 use lib.Dec.{T, eqb, ltb, eqb→eq}
 use borrow.Author.Tests.{ltb-true, eqb-true, lt-ltb}
 use Rattle.laws.specs.Pick.{pick}
-use Rattle.laws.specs.Result.{ok, violation}
+use Rattle.laws.specs.Result.{fault, ok, violation}
 use Rattle.laws.proofs.Below.{below}
 use Rattle.laws.proofs.Tests.{T-first, T-second, and-first, and-second, and-both}
 use Rattle.laws.proofs.Results.{ok-same, violation-not-ok}
@@ -22,7 +22,7 @@ use Rattle.wire.specs.declared.Named.the-variants.{Known, Unknown}
 use Rattle.wire.specs.declared.Message.{Message}
 use Rattle.wire.specs.declared.Message.the-variants.{NoOperation, Shutdown, Ping, PingAck, Error, IncrementRation, Abort, Close, Acknowledgment, Data}
 use Rattle.wire.specs.FirstByte.{kindOf}
-use Rattle.wire.specs.Layout.{layout, fixed, message}
+use Rattle.wire.specs.Layout.{layout, fixed, firstWrong, message}
 use Rattle.wire.specs.Message.{maySend, flagsAllowed, allowed, typed, parseHeader, weight, firstByte, secondByte, numberOf, shiftOf, kindOfMessage, header}
 use Rattle.wire.proofs.FirstBytes.{code, codeOf, same}
 use Rattle.wire.proofs.Tables.{clear, decoded, fixed-clear, message-decoded}
@@ -210,7 +210,7 @@ pub passed : (from : Role) (k : Kind) (l m : Message) → allowed from k l ≡ o
 unfolding allowed pick
 passed from k l m q = go (maySend from k) (flagsAllowed from l) refl refl q
   where
-    go : (s f : Bool) → maySend from k ≡ s → flagsAllowed from l ≡ f → pick s (pick f (ok l) (violation 24)) (violation 23) ≡ ok m → Passed from k l m
+    go : (s f : Bool) → maySend from k ≡ s → flagsAllowed from l ≡ f → pick s (pick f (ok l) (violation (fault 24 0))) (violation (fault 23 0)) ≡ ok m → Passed from k l m
     go true true s f p = record { is = ok-same p; sends = s; allows = f }
     go true false s f p = absurd (violation-not-ok p)
     go false true s f p = absurd (violation-not-ok p)
@@ -245,7 +245,8 @@ module _ (from : Role) (a b c d : ℕ) (ha : a < 256) (hb : b < 256) (hc : c < 2
   known-parsed k e q = go (fixed (layout k) (a ∷ b ∷ c ∷ d ∷ [])) refl q
     where
       go : (f : Bool) → fixed (layout k) (a ∷ b ∷ c ∷ d ∷ []) ≡ f
-          → pick f (allowed from k (message k (a ∷ b ∷ c ∷ d ∷ []))) (violation 21) ≡ ok m → Parsed from a b (c * 256 + d) m
+          → pick f (allowed from k (message k (a ∷ b ∷ c ∷ d ∷ []))) (violation (fault 21 (firstWrong (layout k) (a ∷ b ∷ c ∷ d ∷ [])))) ≡ ok m
+          → Parsed from a b (c * 256 + d) m
       go true f p =
           let w = passed from k (message k (a ∷ b ∷ c ∷ d ∷ [])) m p in
           parsed-decoded k e (fixed-clear a b c d hb hc hd ha k k refl e ∙ f) (w .sends)

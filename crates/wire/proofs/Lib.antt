@@ -9,3 +9,4 @@ pub mod ConnectionLaws
 pub mod Increments
 pub mod Writers
 pub mod Bounds
+pub mod Places

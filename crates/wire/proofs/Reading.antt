@@ -6,7 +6,7 @@ use Prim.Native.Nat.{ℕ, _≤_, _<_}
 use native.Mathlib.Omega.{arith}
 use lib.ListN.{length}
 use borrow.Author.Tests.{lt-ltb, le-ltb}
-use Rattle.laws.specs.Result.{Result, ok, refused, violation}
+use Rattle.laws.specs.Result.{fault, Result, ok, refused, violation}
 use Rattle.laws.proofs.Pick.{yes, no}
 use Rattle.laws.proofs.Lists.{elements, take-elements}
 use Rattle.wire.specs.declared.Role.{Role}
@@ -15,7 +15,7 @@ use Rattle.wire.specs.declared.Named.{Named}
 use Rattle.wire.specs.declared.Named.the-variants.{Known, Unknown}
 use Rattle.wire.specs.declared.Message.{Message}
 use Rattle.wire.specs.FirstByte.{kindOf}
-use Rattle.wire.specs.Layout.{layout, fixed, digits, initialRation, message}
+use Rattle.wire.specs.Layout.{layout, fixed, firstWrong, digits, initialRation, message}
 use Rattle.wire.specs.Message.{maySend, flagsAllowed, allowed, typed, parseHeader, withBody, readMessage}
 use Rattle.wire.specs.Connection.{connectionLayout, parseConnectionHeader, readConnectionHeader}
 
@@ -25,11 +25,11 @@ pub allowed-ok : (from : Role) (k : Kind) (m : Message) → maySend from k ≡ t
 unfolding allowed
 allowed-ok from k m p q = sym (yes _ _ _ p ∙ yes _ _ _ q)
 
-pub allowed-flags : (from : Role) (k : Kind) (m : Message) → maySend from k ≡ true → flagsAllowed from m ≡ false → violation 24 ≡ allowed from k m
+pub allowed-flags : (from : Role) (k : Kind) (m : Message) → maySend from k ≡ true → flagsAllowed from m ≡ false → violation (fault 24 0) ≡ allowed from k m
 unfolding allowed
 allowed-flags from k m p q = sym (yes _ _ _ p ∙ no _ _ _ q)
 
-pub allowed-sender : (from : Role) (k : Kind) (m : Message) → maySend from k ≡ false → violation 23 ≡ allowed from k m
+pub allowed-sender : (from : Role) (k : Kind) (m : Message) → maySend from k ≡ false → violation (fault 23 0) ≡ allowed from k m
 unfolding allowed
 allowed-sender from k m p = sym (no _ _ _ p)
 
@@ -45,11 +45,12 @@ module _ (from : Role) (a b c d : ℕ) where
   unfolding typed
   header-clear {k} e f p q = q ∙ ap (allowed from k) p ∙ sym (yes _ _ _ f) ∙ named e
 
-  pub header-reserved : {k : Kind} → kindOf a ≡ Known k → fixed (layout k) (a ∷ b ∷ c ∷ d ∷ []) ≡ false → violation 21 ≡ parseHeader from (a ∷ b ∷ c ∷ d ∷ [])
+  pub header-reserved : {k : Kind} {place : ℕ} → kindOf a ≡ Known k → fixed (layout k) (a ∷ b ∷ c ∷ d ∷ []) ≡ false
+      → place ≡ firstWrong (layout k) (a ∷ b ∷ c ∷ d ∷ []) → violation (fault 21 place) ≡ parseHeader from (a ∷ b ∷ c ∷ d ∷ [])
   unfolding typed
-  header-reserved e f = sym (no _ _ _ f) ∙ named e
+  header-reserved e f q = ap (λ (p : ℕ). violation (fault 21 p)) q ∙ sym (no _ _ _ f) ∙ named e
 
-  pub header-unknown : kindOf a ≡ Unknown → violation 20 ≡ parseHeader from (a ∷ b ∷ c ∷ d ∷ [])
+  pub header-unknown : kindOf a ≡ Unknown → violation (fault 20 0) ≡ parseHeader from (a ∷ b ∷ c ∷ d ∷ [])
   unfolding typed
   header-unknown e = named e
 
@@ -79,6 +80,7 @@ pub number-ok : (h : List ℕ) {n : ℕ} → fixed connectionLayout h ≡ true �
 unfolding parseConnectionHeader
 number-ok h e q = ap ok q ∙ sym (yes _ _ _ e)
 
-pub number-bad : (h : List ℕ) → fixed connectionLayout h ≡ false → violation 22 ≡ parseConnectionHeader h
+pub number-bad : (h : List ℕ) {place : ℕ} → fixed connectionLayout h ≡ false → place ≡ firstWrong connectionLayout h
+    → violation (fault 22 place) ≡ parseConnectionHeader h
 unfolding parseConnectionHeader
-number-bad h e = sym (no _ _ _ e)
+number-bad h e q = ap (λ (p : ℕ). violation (fault 22 p)) q ∙ sym (no _ _ _ e)

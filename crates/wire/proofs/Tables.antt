@@ -1,10 +1,11 @@
 -- What the layout tables say of four header bytes, in sums and tests of each byte, from tests computed over the 256 bytes.
 use mathlib.Core.Path.{_≡_, refl, ap, sym, _∙_, subst}
-use mathlib.Core.Bool.{Bool, true, false, _&&_, Bool·beq, and-true, and-assoc}
+use mathlib.Core.Bool.{Bool, true, false, _&&_, Bool·beq, and-true, and-assoc, true≢false}
 use mathlib.Core.List.{List, [], _∷_, _++_}
 use Prim.Native.Nat.{ℕ, _+_, _*_, _/_, _%_, _<_}
 use native.Mathlib.Omega.{arith}
 use lib.Dec.{T, eqb, ltb}
+use borrow.Author.Tests.{eq-eqb, ne-eqb}
 use lib.ListN.{getD, take, drop, take-append-drop}
 use Rattle.wire.specs.declared.Kind.{Kind}
 use Rattle.wire.specs.declared.Kind.the-variants as kind
@@ -14,12 +15,13 @@ use Rattle.wire.specs.declared.Message.{Message}
 use Rattle.wire.specs.declared.Message.the-variants.{NoOperation, Shutdown, Ping, PingAck, Error, IncrementRation, Abort, Close, Acknowledgment, Data}
 use Rattle.wire.specs.Pattern.{Bit, O, I, x, -, bits, fits, withBits}
 use Rattle.wire.specs.FirstByte.{kindOf}
-use Rattle.wire.specs.Layout.{LayoutRow, layout, fixed, hasItem, item, message, body, length}
+use Rattle.wire.specs.Layout.{LayoutRow, layout, fixed, firstWrong, hasItem, item, message, body, length}
 use Rattle.wire.specs.Message.{bodyLength}
 use Rattle.wire.specs.Connection.{connectionLayout}
 use Rattle.laws.specs.Pick.{pick}
 use Rattle.laws.proofs.Below.{every, below, below-number, below-test}
-use Rattle.laws.proofs.Tests.{T-true, and-same}
+use Rattle.laws.proofs.Pick.{yes, no}
+use Rattle.laws.proofs.Tests.{T-true, and-first, and-second, and-same}
 
 -- a byte as its eight bits
 byte-bits : (a : ℕ) → a < 256 → withBits (bits x x x x x x x x) 128 a 0 ≡ a
@@ -144,6 +146,94 @@ module _ (a b c d : ℕ) (hb : b < 256) (hc : c < 256) (hd : d < 256) where
       ∙ fixed-append (take (firstRows k) (layout k)) _ _
       ∙ ap (λ (t : Bool). t && fixed (drop (firstRows k) (layout k)) (a ∷ b ∷ c ∷ d ∷ [])) (first-only a b c d k ∙ first-fixed a ha k e))
 
+-- ---- the first byte that is not as a layout fixes it
+
+-- rows that the header fits are passed over
+passed-over : (rs qs : List LayoutRow) (h : List ℕ) → fixed rs h ≡ true → firstWrong (rs ++ qs) h ≡ firstWrong qs h
+unfolding firstWrong
+passed-over [] qs h e = refl
+passed-over (r ∷ rs) qs h e =
+    let f = fits (r .pattern) 128 (getD h (r .offset) 0) in
+    yes f _ _ (and-first f (fixed rs h) e) ∙ passed-over rs qs h (and-second f (fixed rs h) e)
+
+-- the place of the first wrong byte behind the first one, where one is wrong
+abbrev pub wrongPlace : Kind → ℕ → ℕ → ℕ
+wrongPlace kind.NoOperation b c = 1
+wrongPlace kind.Shutdown b c = 1
+wrongPlace kind.Ping b c = 1
+wrongPlace kind.PingAck b c = 1
+wrongPlace kind.Error b c = 1
+wrongPlace kind.IncrementRation b c = 1
+wrongPlace kind.Abort b c = 1
+wrongPlace kind.Close b c = pick (ltb b 128) (pick (eqb c 0) 3 2) 1
+wrongPlace kind.Acknowledgment b c = pick (ltb b 128) (pick (eqb c 0) 3 2) 1
+wrongPlace kind.Data b c = 1
+
+last-wrong : (p q r : Bool) → (p && q && r) ≡ false → _≡_ {A = ℕ} (pick p (pick q (pick r 0 3) 2) 1) (pick p (pick q 3 2) 1)
+unfolding pick
+last-wrong false q r e = refl
+last-wrong true false r e = refl
+last-wrong true true false e = refl
+last-wrong true true true e = absurd (true≢false e)
+
+module _ (a b c d : ℕ) (hb : b < 256) (hc : c < 256) (hd : d < 256) where
+  bare-place : {f g i : Bool} → f ≡ ltb b 128 → g ≡ eqb c 0 → i ≡ eqb d 0 → (ltb b 128 && eqb c 0 && eqb d 0) ≡ false
+      → _≡_ {A = ℕ} (pick f (pick g (pick i 0 3) 2) 1) (pick (ltb b 128) (pick (eqb c 0) 3 2) 1)
+  bare-place p q r e = rw (p, q, r) (last-wrong (ltb b 128) (eqb c 0) (eqb d 0) e)
+
+  rest-wrong : (k : Kind) → clear k b c d ≡ false → firstWrong (drop (firstRows k) (layout k)) (a ∷ b ∷ c ∷ d ∷ []) ≡ wrongPlace k b c
+  unfolding firstWrong pick
+  rest-wrong kind.NoOperation e = no _ _ _ (zero-byte b hb ∙ e)
+  rest-wrong kind.Shutdown e = no _ _ _ (zero-byte b hb ∙ e)
+  rest-wrong kind.Ping e = no _ _ _ (zero-byte b hb ∙ e)
+  rest-wrong kind.PingAck e = no _ _ _ (zero-byte b hb ∙ e)
+  rest-wrong kind.Error e = no _ _ _ (zero-byte b hb ∙ e)
+  rest-wrong kind.IncrementRation e = no _ _ _ (top-bit b hb ∙ e)
+  rest-wrong kind.Abort e = no _ _ _ (top-bit b hb ∙ e)
+  rest-wrong kind.Close e = bare-place (top-bit b hb) (zero-byte c hc) (zero-byte d hd) e
+  rest-wrong kind.Acknowledgment e = bare-place (top-bit b hb) (zero-byte c hc) (zero-byte d hd) e
+  rest-wrong kind.Data e = no _ _ _ (top-bit b hb ∙ e)
+
+  pub place-is : a < 256 → (k : Kind) → kindOf a ≡ Known k → fixed (layout k) (a ∷ b ∷ c ∷ d ∷ []) ≡ false
+      → wrongPlace k b c ≡ firstWrong (layout k) (a ∷ b ∷ c ∷ d ∷ [])
+  place-is ha k e f =
+      let h = a ∷ b ∷ c ∷ d ∷ [] in
+      sym
+      (ap (λ (rs : List LayoutRow). firstWrong rs h) (sym (take-append-drop (firstRows k) (layout k)))
+      ∙ passed-over (take (firstRows k) (layout k)) (drop (firstRows k) (layout k)) h (first-only a b c d k ∙ first-fixed a ha k e)
+      ∙ rest-wrong k (fixed-clear a b c d hb hc hd ha k k refl e ∙ f))
+
+-- byte 1 is wrong by itself, or bytes 2 and 3 have to be 0
+by-second : (k : Kind) (b c d : ℕ) → clear k b c d ≡ false → pick (clear k b 0 0) (pick (eqb c 0) 3 2) 1 ≡ wrongPlace k b c
+by-second kind.NoOperation b c d e = no _ _ _ e
+by-second kind.Shutdown b c d e = no _ _ _ e
+by-second kind.Ping b c d e = no _ _ _ e
+by-second kind.PingAck b c d e = no _ _ _ e
+by-second kind.Error b c d e = no _ _ _ e
+by-second kind.IncrementRation b c d e = no _ _ _ e
+by-second kind.Abort b c d e = no _ _ _ e
+by-second kind.Close b c d e = ap (λ (t : Bool). pick t (pick (eqb c 0) 3 2) 1) (and-true _ ∙ and-true _)
+by-second kind.Acknowledgment b c d e = ap (λ (t : Bool). pick t (pick (eqb c 0) 3 2) 1) (and-true _ ∙ and-true _)
+by-second kind.Data b c d e = no _ _ _ e
+
+-- the place, by tests of the second byte alone and of the third
+module _ (a b c d : ℕ) (ha : a < 256) (hb : b < 256) (hc : c < 256) (hd : d < 256) (k : Kind) (e : kindOf a ≡ Known k)
+    (f : fixed (layout k) (a ∷ b ∷ c ∷ d ∷ []) ≡ false) where
+  tested : (t : Bool) → fixed (layout k) (a ∷ b ∷ 0 ∷ 0 ∷ []) ≡ t → pick t (pick (eqb c 0) 3 2) 1 ≡ firstWrong (layout k) (a ∷ b ∷ c ∷ d ∷ [])
+  tested t q =
+      ap (λ (u : Bool). pick u (pick (eqb c 0) 3 2) 1) (sym (fixed-clear a b 0 0 hb (omega arith) (omega arith) ha k k refl e ∙ q))
+      ∙ by-second k b c d (fixed-clear a b c d hb hc hd ha k k refl e ∙ f)
+      ∙ place-is a b c d hb hc hd ha k e f
+
+  pub wrong-second : fixed (layout k) (a ∷ b ∷ 0 ∷ 0 ∷ []) ≡ false → 1 ≡ firstWrong (layout k) (a ∷ b ∷ c ∷ d ∷ [])
+  wrong-second q = sym (no _ _ _ refl) ∙ tested false q
+
+  pub wrong-third : fixed (layout k) (a ∷ b ∷ 0 ∷ 0 ∷ []) ≡ true → (c ≡ 0 → ⊥) → 2 ≡ firstWrong (layout k) (a ∷ b ∷ c ∷ d ∷ [])
+  wrong-third q z = sym (yes _ _ _ refl ∙ no _ _ _ (ne-eqb _ _ z)) ∙ tested true q
+
+  pub wrong-fourth : fixed (layout k) (a ∷ b ∷ 0 ∷ 0 ∷ []) ≡ true → c ≡ 0 → 3 ≡ firstWrong (layout k) (a ∷ b ∷ c ∷ d ∷ [])
+  wrong-fourth q z = sym (yes _ _ _ refl ∙ yes _ _ _ (eq-eqb _ _ z)) ∙ tested true q
+
 -- ---- the items that a layout has
 
 -- the message of each type, from the first byte, the second and the number
@@ -227,3 +317,33 @@ header-fixed a b c d v r ha hb hc hd hv hr h l =
     (and-same (exact (bits O I I I O I O I) 0x75 tt c hc)
     (and-same (exact (bits O I I I I O O O) 0x78 tt d hd)
     (and-same (exact (bits O O O O O O O I) 0x01 tt v hv) (and-same (zero-byte r hr) refl))))))
+
+-- the place of the first of the six bytes that the layout fixes and that is not as it fixes it
+abbrev pub firstOfSix : Bool → Bool → Bool → Bool → Bool → Bool → ℕ
+firstOfSix p q r s t u = pick p (pick q (pick r (pick s (pick t (pick u 0 7) 4) 3) 2) 1) 0
+
+last-of-six : (p q r s t u : Bool) → (p && (q && (r && (s && (t && (u && true)))))) ≡ false → firstOfSix p q r s t false ≡ firstOfSix p q r s t u
+unfolding pick
+last-of-six false q r s t u e = refl
+last-of-six true false r s t u e = refl
+last-of-six true true false s t u e = refl
+last-of-six true true true false t u e = refl
+last-of-six true true true true false u e = refl
+last-of-six true true true true true false e = refl
+last-of-six true true true true true true e = absurd (true≢false e)
+
+-- the place, by tests of five bytes, where one of the six is wrong
+pub header-wrong : (a b c d v : ℕ) → a < 256 → b < 256 → c < 256 → d < 256 → v < 256 → (h l r : ℕ)
+    → fixed connectionLayout (a ∷ b ∷ c ∷ d ∷ v ∷ h ∷ l ∷ r ∷ []) ≡ false
+    → firstOfSix (eqb a 0x4A) (eqb b 0x6D) (eqb c 0x75) (eqb d 0x78) (eqb v 0x01) false
+    ≡ firstWrong connectionLayout (a ∷ b ∷ c ∷ d ∷ v ∷ h ∷ l ∷ r ∷ [])
+unfolding firstWrong pick
+header-wrong a b c d v ha hb hc hd hv h l r e =
+    sym
+    (same (exact (bits O I O O I O I O) 0x4A tt a ha) (exact (bits O I I O I I O I) 0x6D tt b hb) (exact (bits O I I I O I O I) 0x75 tt c hc)
+    (exact (bits O I I I I O O O) 0x78 tt d hd) (exact (bits O O O O O O O I) 0x01 tt v hv))
+    ∙ last-of-six (fits (bits O I O O I O I O) 128 a) (fits (bits O I I O I I O I) 128 b) (fits (bits O I I I O I O I) 128 c)
+    (fits (bits O I I I I O O O) 128 d) (fits (bits O O O O O O O I) 128 v) (fits (bits O O O O O O O O) 128 r) e
+  where
+    same : {p p′ q q′ s s′ t t′ u u′ : Bool} → p ≡ p′ → q ≡ q′ → s ≡ s′ → t ≡ t′ → u ≡ u′ → firstOfSix p q s t u false ≡ firstOfSix p′ q′ s′ t′ u′ false
+    same e f g i j = rw (e, f, g, i, j)

@@ -4,9 +4,9 @@ use mathlib.Core.List.{List, [], _∷_, _++_}
 use lib.ListN.{length, take, drop}
 use lib.Dec.{ltb, leb}
 use Rattle.laws.specs.Pick.{pick}
-use Rattle.laws.specs.Result.{Result, ok, refused, violation}
+use Rattle.laws.specs.Result.{fault, Result, ok, refused, violation}
 use Rattle.wire.specs.Pattern.{O, I, x, bits}
-use Rattle.wire.specs.Layout.{LayoutRow, row, fixed, digits, magic, version, initialRation, reserved}
+use Rattle.wire.specs.Layout.{LayoutRow, row, fixed, firstWrong, digits, magic, version, initialRation, reserved}
 
 abbrev pub connectionLayout : List LayoutRow
 connectionLayout =
@@ -20,10 +20,11 @@ connectionLayout =
     ∷ row 7 (bits O O O O O O O O) reserved
     ∷ []
 
--- what the eight bytes say: the header number, or 22
+-- what the eight bytes say: the header number, or 22 at the first byte that is not as the layout fixes it
 unfoldable pub parseConnectionHeader : List ℕ → Result ℕ
 parseConnectionHeader header =
-    pick (fixed connectionLayout header) (ok (digits initialRation connectionLayout header 0)) (violation 22)
+    pick (fixed connectionLayout header) (ok (digits initialRation connectionLayout header 0))
+    (violation (fault 22 (firstWrong connectionLayout header)))
 
 -- what is at the front of the input: 10 for fewer than 8 bytes
 unfoldable pub readConnectionHeader : List ℕ → Result ℕ

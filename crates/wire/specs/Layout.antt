@@ -92,6 +92,11 @@ abbrev pub fixed : List LayoutRow → List ℕ → Bool
 fixed [] header = true
 fixed (r ∷ rs) header = fits (r .pattern) 128 (getD header (r .offset) 0) && fixed rs header
 
+-- the place of the first byte that is not as a row fixes it, where there is one, since the rows are in the order of their bytes
+unfoldable pub firstWrong : List LayoutRow → List ℕ → ℕ
+firstWrong [] header = 0
+firstWrong (r ∷ rs) header = pick (fits (r .pattern) 128 (getD header (r .offset) 0)) (firstWrong rs header) (r .offset)
+
 -- the binary digits of n, and behind them the bits of each row that describes the item
 abbrev pub digits : Item → List LayoutRow → List ℕ → ℕ → ℕ
 digits i [] header n = n
@@ -102,6 +107,11 @@ digits i (r ∷ rs) header n =
 abbrev pub hasItem : Item → List LayoutRow → Bool
 hasItem i [] = false
 hasItem i (r ∷ rs) = eqb (number i) (number (r .item)) || hasItem i rs
+
+-- the place of the first byte that holds the item; 0 if the layout has no row for it
+unfoldable pub itemPlace : Item → List LayoutRow → ℕ
+itemPlace i [] = 0
+itemPlace i (r ∷ rs) = pick (hasItem i (r ∷ [])) (r .offset) (itemPlace i rs)
 
 -- the number that an item of a message holds
 abbrev pub item : Kind → Item → List ℕ → ℕ

@@ -4,4 +4,5 @@ pub mod FirstByte
 pub mod Layout
 pub mod Message
 pub mod Connection
+pub mod Wrong
 pub mod Back

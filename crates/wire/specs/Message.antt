@@ -5,7 +5,7 @@ use mathlib.Core.Bool.{Bool, true, false, not, _&&_, _||_}
 use lib.ListN.{length, getD, take, drop}
 use lib.Dec.{eqb, ltb, leb}
 use Rattle.laws.specs.Pick.{pick}
-use Rattle.laws.specs.Result.{Result, ok, refused, violation}
+use Rattle.laws.specs.Result.{fault, Result, ok, refused, violation}
 use Rattle.wire.specs.declared.Role.{Role}
 use Rattle.wire.specs.declared.Role.the-variants.{Client, Server}
 use Rattle.wire.specs.declared.Kind.{Kind}
@@ -15,7 +15,7 @@ use Rattle.wire.specs.declared.Named.the-variants.{Known, Unknown}
 use Rattle.wire.specs.declared.Message.{Message}
 use Rattle.wire.specs.declared.Message.the-variants.{NoOperation, Shutdown, Ping, PingAck, Error, IncrementRation, Abort, Close, Acknowledgment, Data}
 use Rattle.wire.specs.FirstByte.{kindOf}
-use Rattle.wire.specs.Layout.{layout, fixed, message}
+use Rattle.wire.specs.Layout.{layout, fixed, firstWrong, message}
 
 abbrev pub isClient : Role → Bool
 isClient Client = true
@@ -60,14 +60,15 @@ flagsAllowed from (Close i) = true
 flagsAllowed from (Acknowledgment i) = true
 flagsAllowed from (Data opens close eof ack i n) = dataFlags from opens close eof ack
 
--- 23 for a type that is not the sender's, then 24 for a flag that is not
+-- 23 for a type that is not the sender's, then 24 for a flag that is not; both are in the first byte
 unfoldable pub allowed : Role → Kind → Message → Result Message
-allowed from k m = pick (maySend from k) (pick (flagsAllowed from m) (ok m) (violation 24)) (violation 23)
+allowed from k m = pick (maySend from k) (pick (flagsAllowed from m) (ok m) (violation (fault 24 0))) (violation (fault 23 0))
 
--- 20 for a first byte of no type, then 21 for a bit that is not as the layout fixes it
+-- 20 for a first byte of no type, then 21 for a bit that is not as the layout fixes it, at the first byte with such a bit
 unfoldable pub typed : Role → List ℕ → Named → Result Message
-typed from header (Known k) = pick (fixed (layout k) header) (allowed from k (message k header)) (violation 21)
-typed from header Unknown = violation 20
+typed from header (Known k) =
+    pick (fixed (layout k) header) (allowed from k (message k header)) (violation (fault 21 (firstWrong (layout k) header)))
+typed from header Unknown = violation (fault 20 0)
 
 -- the message of exactly four header bytes
 unfoldable pub parseHeader : Role → List ℕ → Result Message
@@ -90,7 +91,7 @@ bodyLength (Data o c e a i n) = n
 abbrev pub withBody : ℕ → Result Message → Result Message
 withBody have (ok m) = pick (leb (4 + bodyLength m) have) (ok m) (refused 10)
 withBody have (refused n) = refused n
-withBody have (violation n) = violation n
+withBody have (violation f) = violation f
 
 -- what is at the front of the input: 10 for fewer than 4 bytes, then what the header says, then 10 again
 unfoldable pub readMessage : Role → List ℕ → Result Message

@@ -23,7 +23,7 @@ fn answer(answer: Read) {
     match answer {
         Read::Message(m) => taken(m),
         Read::Incomplete => show::refused(10),
-        Read::Violated(v) => show::refused(v.number() as u64),
+        Read::Violated(fault) => show::violated(fault),
     }
 }
 
@@ -63,7 +63,7 @@ fn header_answer(answer: ReadHeader) {
     match answer {
         ReadHeader::Number(n) => show::item(b": ok ", n as u64),
         ReadHeader::Incomplete => show::refused(10),
-        ReadHeader::Violated(v) => show::refused(v.number() as u64),
+        ReadHeader::Violated(fault) => show::violated(fault),
     }
 }
 

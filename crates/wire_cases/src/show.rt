@@ -1,7 +1,9 @@
-// A message, a role and bytes as text on standard output.
+// A message, a fault, a role and bytes as text on standard output.
 use libc::STDOUT_FILENO;
+use refusal::Fault;
 use text_line::Line;
 use text_line::first;
+use text_message::with_fault;
 use text_message::with_message;
 use wire::Message;
 use wire::Role;
@@ -40,9 +42,17 @@ pub(crate) fn part(name: &[u8], s: &[u8]) {
     text(first(&digits, 2 * n));
 }
 
-pub(crate) fn message(m: Message) {
-    let line = with_message(Line::new(), m);
+fn words(line: Line) {
     let bytes = line.bytes;
     let n = line.length;
     text(first(&bytes, n));
+}
+
+pub(crate) fn message(m: Message) {
+    words(with_message(Line::new(), m));
+}
+
+// A violation, with its place.
+pub(crate) fn violated(fault: Fault) {
+    words(with_fault(Line::new().text(b":"), fault));
 }

@@ -1,13 +1,15 @@
 // What the bytes of a connection header say.
 use crate::ParsedHeader;
 use crate::ReadHeader;
+use refusal::Fault;
 use refusal::Violation;
 ghost use mathlib.Core.Path.{_≡_};
 ghost use Prim.Native.Nat.{ℕ};
+ghost use mathlib.Core.Bool.{false};
 ghost use mathlib.Core.List.{_∷_, []};
 ghost use Rattle.wire.specs.Pattern.{x, bits, withBits};
 ghost use Rattle.wire.specs.Connection.{connectionLayout, parseConnectionHeader, readConnectionHeader};
-ghost use Rattle.wire.specs.Layout.{fixed};
+ghost use Rattle.wire.specs.Layout.{fixed, firstWrong};
 ghost use Rattle.wire_connection_header.specs.Answer.{headerParsedAs, headerReadAs};
 
 // Whether four bytes are the magic number, and two more the version and the reserved byte.
@@ -17,6 +19,28 @@ fn is_header(a: u8, b: u8, c: u8, d: u8, version: u8, reserved: u8) -> bool
     let front = (a == 0x4A) & (b == 0x6D);
     let back = (c == 0x75) & (d == 0x78);
     front & back & (version == 0x01) & (reserved == 0x00)
+}
+
+// The place of the first wrong byte, where eight bytes are not a header; if none of these five is wrong, the last one of the eight is.
+fn wrong_place(a: u8, b: u8, c: u8, d: u8, version: u8) -> u16
+    ensures { λ r. ⌜ ((high low reserved : ℕ) → fixed connectionLayout (a ∷ b ∷ c ∷ d ∷ version ∷ high ∷ low ∷ reserved ∷ []) ≡ false → r ≡ firstWrong connectionLayout (a ∷ b ∷ c ∷ d ∷ version ∷ high ∷ low ∷ reserved ∷ [])) ⌝ }
+{
+    if a != 0x4A {
+        return 0;
+    }
+    if b != 0x6D {
+        return 1;
+    }
+    if c != 0x75 {
+        return 2;
+    }
+    if d != 0x78 {
+        return 3;
+    }
+    if version != 0x01 {
+        return 4;
+    }
+    7
 }
 
 // The number in bytes 5 and 6 of a header.
@@ -34,7 +58,11 @@ pub fn parse_connection_header(bytes: [u8; 8]) -> ParsedHeader
     if is_header(bytes[0], bytes[1], bytes[2], bytes[3], bytes[4], bytes[7]) {
         return ParsedHeader::Number(n);
     }
-    ParsedHeader::Violated(Violation::BadHeader)
+    let offset = wrong_place(bytes[0], bytes[1], bytes[2], bytes[3], bytes[4]);
+    ParsedHeader::Violated(Fault {
+        violation: Violation::BadHeader,
+        offset,
+    })
 }
 
 // The connection header at the front of the input.
@@ -56,6 +84,6 @@ pub fn read_connection_header(input: &[u8]) -> ReadHeader
     ];
     match parse_connection_header(bytes) {
         ParsedHeader::Number(n) => ReadHeader::Number(n),
-        ParsedHeader::Violated(v) => ReadHeader::Violated(v),
+        ParsedHeader::Violated(fault) => ReadHeader::Violated(fault),
     }
 }

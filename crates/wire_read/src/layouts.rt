@@ -4,11 +4,11 @@ use wire::Message;
 ghost use mathlib.Core.Path.{_≡_};
 ghost use Prim.Native.Nat.{_+_, _*_};
 ghost use mathlib.Core.List.{_∷_, []};
-ghost use mathlib.Core.Bool.{_&&_};
+ghost use mathlib.Core.Bool.{false, _&&_};
 ghost use lib.Dec.{ltb, eqb};
 ghost use Rattle.wire.specs.declared.Named.the-variants.{Known};
 ghost use Rattle.wire.specs.FirstByte.{kindOf};
-ghost use Rattle.wire.specs.Layout.{layout, fixed, message};
+ghost use Rattle.wire.specs.Layout.{layout, fixed, firstWrong, message};
 
 // Whether byte 1 is a session number and bytes 2 and 3 are 0.
 fn bare_session(second: u8, third: u8, fourth: u8) -> bool
@@ -37,6 +37,21 @@ pub(crate) fn reserved_clear(kind: Kind, first: u8, second: u8, third: u8, fourt
         Kind::Acknowledgment => bare_session(second, third, fourth),
         Kind::Data => second < 128,
     }
+}
+
+// The place of the first wrong byte, where a reserved bit is set: byte 1 if it is wrong whatever follows, else byte 2 or 3, which then
+// have to be 0. A first byte that names the type is right.
+pub(crate) fn wrong_place(kind: Kind, first: u8, second: u8, third: u8, fourth: u8) -> u16
+    requires { ⌜ (kindOf first ≡ Known kind) × (fixed (layout kind) (first ∷ second ∷ third ∷ fourth ∷ []) ≡ false) ⌝ }
+    ensures { λ r. ⌜ r ≡ firstWrong (layout kind) (first ∷ second ∷ third ∷ fourth ∷ []) ⌝ }
+{
+    if reserved_clear(kind, first, second, 0, 0) {
+        if third == 0 {
+            return 3;
+        }
+        return 2;
+    }
+    1
 }
 
 // The 16-bit number of two bytes, high byte first.

@@ -5,18 +5,18 @@ mod messages;
 
 pub use messages::parse_header;
 pub use messages::read_message;
-use refusal::Violation;
+use refusal::Fault;
 use wire::Message;
 
 // What the four header bytes of a message say.
 pub enum Parsed {
     Message(Message),
-    Violated(Violation),
+    Violated(Fault),
 }
 
 // The message at the front of an input, or why there is none.
 pub enum Read {
     Message(Message),
     Incomplete,
-    Violated(Violation),
+    Violated(Fault),
 }

@@ -4,6 +4,8 @@ use crate::Read;
 use crate::kinds::kind_of;
 use crate::layouts::message_of;
 use crate::layouts::reserved_clear;
+use crate::layouts::wrong_place;
+use refusal::Fault;
 use refusal::Violation;
 use wire::Kind;
 use wire::Message;
@@ -14,8 +16,20 @@ use wire_fields::flags_allowed;
 use wire_fields::may_send;
 ghost use mathlib.Core.Path.{_≡_};
 ghost use mathlib.Core.List.{_∷_, []};
+ghost use Rattle.laws.specs.Result.{fault, violation as Result·violation};
+ghost use Rattle.refusal.specs.Number.{violationNumber};
 ghost use Rattle.wire.specs.Message.{allowed, parseHeader, withBody, readMessage};
 ghost use Rattle.wire_read.specs.Answer.{parsedAs, readAs};
+
+// A violation whose byte at fault is the first one.
+fn at_first(violation: Violation) -> Parsed
+    ensures { λ r. ⌜ parsedAs r ≡ Result·violation (fault (violationNumber violation) 0) ⌝ }
+{
+    Parsed::Violated(Fault {
+        violation,
+        offset: 0,
+    })
+}
 
 // The message, if the sender may send it.
 fn if_allowed(from: Role, kind: Kind, m: Message) -> Parsed
@@ -25,9 +39,9 @@ fn if_allowed(from: Role, kind: Kind, m: Message) -> Parsed
         if flags_allowed(from, m) {
             return Parsed::Message(m);
         }
-        return Parsed::Violated(Violation::WrongFlags);
+        return at_first(Violation::WrongFlags);
     }
-    Parsed::Violated(Violation::WrongSender)
+    at_first(Violation::WrongSender)
 }
 
 // What the four header bytes of a message from a sender say.
@@ -41,9 +55,13 @@ pub fn parse_header(from: Role, first: u8, second: u8, third: u8, fourth: u8) ->
                 let message = message_of(kind, first, second, third, fourth);
                 return if_allowed(from, kind, message);
             }
-            Parsed::Violated(Violation::ReservedBit)
+            let offset = wrong_place(kind, first, second, third, fourth);
+            Parsed::Violated(Fault {
+                violation: Violation::ReservedBit,
+                offset,
+            })
         }
-        Named::Unknown => Parsed::Violated(Violation::UnknownType),
+        Named::Unknown => at_first(Violation::UnknownType),
     }
 }
 
@@ -59,7 +77,7 @@ fn with_body(have: usize, parsed: Parsed) -> Read
             }
             Read::Incomplete
         }
-        Parsed::Violated(v) => Read::Violated(v),
+        Parsed::Violated(fault) => Read::Violated(fault),
     }
 }
 

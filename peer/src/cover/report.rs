@@ -2,7 +2,7 @@
 
 use super::{Cover, Place, ANSWERS};
 use crate::corners::CORNERS;
-use crate::refusal;
+use crate::refusal::{self, Refusal, Violation};
 use crate::script::WORDS;
 use crate::session::{Ours, Theirs};
 use std::collections::BTreeMap;
@@ -82,6 +82,20 @@ fn reachable_pairs() -> Vec<Place> {
     places
 }
 
+/// Gives every violation with each of its places.
+fn violations() -> impl Iterator<Item = Violation> {
+    let each = |(number, places): (u8, &'static [u32])| {
+        let at = move |place: &u32| Violation::new(number, *place);
+        places.iter().map(at)
+    };
+    refusal::PLACES.into_iter().flat_map(each)
+}
+
+/// Gives a violation as receive prints it, without the bytes that it wrote.
+fn violation_name(violation: Violation) -> String {
+    format!("receive refused {}", Refusal::from(violation))
+}
+
 /// The report.
 impl Cover {
     /// Gives how often a refusal number was the answer.
@@ -90,9 +104,16 @@ impl Cover {
         self.answers.iter().map(|row| row[place]).sum()
     }
 
+    /// Gives how often a violation was found at its place.
+    fn found(&self, violation: Violation) -> u64 {
+        self.violations.get(&violation).copied().unwrap_or(0)
+    }
+
     /// Gives, in words, all that scripts can reach and these did not.
     pub fn missing(&self) -> Vec<String> {
         let mut missing = self.missing_answers();
+        let places = violations().filter(|violation| self.found(*violation) == 0);
+        missing.extend(places.map(violation_name));
         missing.extend(self.missing_messages());
         missing.extend(self.missing_states());
         missing
@@ -115,9 +136,12 @@ impl Cover {
         missing
     }
 
-    /// Gives the calls' answers that were reached and should not exist.
+    /// Gives the calls' answers and the violations' places that were reached and should not exist.
     pub fn surprises(&self) -> Vec<String> {
-        let mut surprises = Vec::new();
+        let known: Vec<Violation> = violations().collect();
+        let reached = self.violations.keys().copied();
+        let strange = reached.filter(|violation| !known.contains(violation));
+        let mut surprises: Vec<String> = strange.map(violation_name).collect();
         for (place, refusals) in refusal::BY_CALL.iter().enumerate() {
             for number in 1..ANSWERS as u8 {
                 let times = self.answers[place][usize::from(number)];
@@ -192,6 +216,7 @@ impl Cover {
         )?;
         self.write_answers(text)?;
         self.write_refusals(text)?;
+        self.write_violations(text)?;
         write_counts(text, "Messages received and taken", &self.received)?;
         write_counts(text, "Messages sent", &self.sent)?;
         self.write_pairs(text)?;
@@ -242,6 +267,16 @@ impl Cover {
             text,
             "  12's other half (a bad clock value) cannot either: no script call has a clock"
         )
+    }
+
+    /// Writes each violation at each of its places with its times.
+    fn write_violations(&self, text: &mut String) -> std::fmt::Result {
+        writeln!(text, "\nViolations by the place of the byte at fault")?;
+        for violation in violations() {
+            let name = Refusal::from(violation).to_string();
+            writeln!(text, "  {name:<26} {}", self.found(violation))?;
+        }
+        Ok(())
     }
 
     /// Writes the pairs of sides that were reached.

@@ -1,35 +1,38 @@
 //! The receive call: one header or message.
 
 use super::{check_room, Engine, Phase, Taken, RECEIVE_ROOM};
-use crate::refusal;
+use crate::refusal::{self, Refusal, Violation};
 use crate::session::{Ours, Session, Theirs};
 use crate::wire::{self, Message, Role};
 
 impl Engine {
     /// Takes the header or message that begins the input; at most 12 bytes are written.
-    pub fn receive(&mut self, input: &[u8], room: usize, out: &mut Vec<u8>) -> Result<Taken, u8> {
+    pub fn receive(
+        &mut self,
+        input: &[u8],
+        room: usize,
+        out: &mut Vec<u8>,
+    ) -> Result<Taken, Refusal> {
         self.check_over()?;
         if self.role == Role::Client && self.phase == Phase::Fresh {
-            return Err(refusal::NOT_UP);
+            return Err(refusal::NOT_UP.into());
         }
         check_room(room, RECEIVE_ROOM)?;
         let answer = match self.phase {
             Phase::Up(_) => self.receive_message(input, out),
             _ => self.receive_header(input, out),
         };
-        if let Err(number) = answer {
-            if number >= refusal::FIRST_VIOLATION {
-                self.lose_line();
-                out.extend_from_slice(&Message::Error { length: 0 }.start());
-            }
+        if let Err(Refusal::Violation(_)) = answer {
+            self.lose_line();
+            out.extend_from_slice(&Message::Error { length: 0 }.start());
         }
         answer
     }
 
     /// Takes the far header; a server answers even a bad one with its own.
-    fn receive_header(&mut self, input: &[u8], out: &mut Vec<u8>) -> Result<Taken, u8> {
+    fn receive_header(&mut self, input: &[u8], out: &mut Vec<u8>) -> Result<Taken, Refusal> {
         let answer = wire::read_header(input);
-        if self.role == Role::Server && answer != Err(refusal::INCOMPLETE) {
+        if self.role == Role::Server && answer != Err(refusal::INCOMPLETE.into()) {
             out.extend_from_slice(&wire::write_header(self.header));
         }
         let far = answer?;
@@ -38,7 +41,7 @@ impl Engine {
     }
 
     /// Takes one message.
-    fn receive_message(&mut self, input: &[u8], out: &mut Vec<u8>) -> Result<Taken, u8> {
+    fn receive_message(&mut self, input: &[u8], out: &mut Vec<u8>) -> Result<Taken, Refusal> {
         let message = Message::read(input, self.role.other())?;
         let late = match message.id() {
             Some(id) => self.take_for_session(id, &message, out)?,
@@ -56,7 +59,7 @@ impl Engine {
         id: u8,
         message: &Message,
         out: &mut Vec<u8>,
-    ) -> Result<bool, u8> {
+    ) -> Result<bool, Violation> {
         let starts = self.starts();
         let role = self.role;
         let session = &mut self.sessions[usize::from(id)];
@@ -74,14 +77,18 @@ impl Engine {
     }
 
     /// Takes a message of the connection as a whole.
-    fn take_for_connection(&mut self, message: &Message, out: &mut Vec<u8>) -> Result<(), u8> {
+    fn take_for_connection(
+        &mut self,
+        message: &Message,
+        out: &mut Vec<u8>,
+    ) -> Result<(), Violation> {
         match *message {
             Message::Ping { cookie } => {
                 out.extend_from_slice(&Message::PingAck { cookie }.start());
             }
             Message::PingAck { cookie } => {
                 if self.ping != Some(cookie) {
-                    return Err(refusal::PINGACK);
+                    return Err(Violation::PINGACK);
                 }
                 self.ping = None;
             }

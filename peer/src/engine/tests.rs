@@ -1,4 +1,5 @@
 use super::*;
+use crate::refusal::Violation;
 
 /// The ways in which a client's connection comes to its end.
 #[derive(Clone, Copy, Debug)]
@@ -48,7 +49,10 @@ fn meet(engine: &mut Engine, end: End) -> Vec<u8> {
     let taken = match end {
         End::Error => engine.receive(&[8, 0, 0, 0], 12, &mut out).is_ok(),
         End::Shutdown => engine.receive(&[2, 0, 0, 0], 12, &mut out).is_ok(),
-        End::Violation => engine.receive(&[1, 0, 0, 0], 12, &mut out) == Err(20),
+        End::Violation => {
+            let answer = engine.receive(&[1, 0, 0, 0], 12, &mut out);
+            answer == Err(Violation::FIRST_BYTE.into())
+        }
         End::Lost => engine.lost().is_ok(),
     };
     assert!(taken && engine.over, "{end:?}");

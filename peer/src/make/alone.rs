@@ -1,7 +1,7 @@
 //! The plans with the near end alone, fed with what the maker thinks of.
 
 use super::{choose_header, Maker};
-use crate::noise;
+use crate::noise::{self, Wrong};
 use crate::pick::{self, Mood};
 use crate::ration::Ration;
 use crate::script::{self, Call};
@@ -112,15 +112,54 @@ impl Maker {
         }
     }
 
-    /// Walks a little, then gives a message with this first byte.
-    pub(super) fn first_byte(&mut self, first: u8) {
+    /// Walks a little, without damage.
+    fn short_walk(&mut self) {
         self.limit = self.limit.min(self.rng.between(3, 24));
         self.taste.noise_from = u64::MAX;
         self.walk();
+    }
+
+    /// Walks a little, then gives a message with this first byte.
+    pub(super) fn first_byte(&mut self, first: u8) {
+        self.short_walk();
         let number = self.rng.one_of(&[0, 0, 0, 1, 256]);
         let bytes = noise::with_first_byte(&mut self.rng, &self.pool, first, number);
         let room = None;
         let _ = self.say(&Call::Receive { bytes, room });
+    }
+
+    /// Gives a header or message that is wrong at chosen places, at times cut first, at times with more behind it.
+    pub(super) fn wrong_bytes(&mut self, wrong: Wrong) {
+        let mut bytes = match wrong {
+            Wrong::Header(places) => {
+                self.before_the_header();
+                noise::wrong_header(&mut self.rng, places)
+            }
+            Wrong::Message(places) => {
+                self.short_walk();
+                noise::wrong_message(&mut self.rng, &self.pool, places)
+            }
+        };
+        let room = None;
+        if self.rng.percent(25) {
+            let bytes = bytes[..self.rng.below(4) as usize].to_vec();
+            let _ = self.say(&Call::Receive { bytes, room });
+        }
+        if self.rng.percent(25) {
+            let more = self.rng.below(6) as usize;
+            bytes.extend(self.rng.bytes(more));
+        }
+        let _ = self.say(&Call::Receive { bytes, room });
+    }
+
+    /// Makes the calls that come before the far header: a client's start, and a few by chance.
+    fn before_the_header(&mut self) {
+        if self.first.role == Role::Client {
+            let _ = self.say(&Call::Start { room: None });
+        }
+        for _ in 0..self.rng.below(4) {
+            self.wild();
+        }
     }
 
     /// Writes lines at the edge of the script language, with a bad one among them.

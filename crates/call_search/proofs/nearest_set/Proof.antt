@@ -4,7 +4,8 @@ use native.Mathlib.Omega.{arith}
 use borrow.Author.Needs.{needs}
 use denote.Ref.{now}
 use Rattle.call_search.specs.Flags.{isSet}
-use Rattle.call_search.proofs.Halves.{or-at, or-nothing, following-lt, two-ranges}
+use Rattle.laws.proofs.Circle.{following-lt}
+use Rattle.call_search.proofs.Halves.{or-at, or-nothing, two-ranges}
 use Rattle.call_search.proofs.nearest_set.Statement.{statement}
 use Rattle.call_search.proofs.nearest_set.Tie as tie
 

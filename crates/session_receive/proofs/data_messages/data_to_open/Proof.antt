@@ -12,13 +12,14 @@ use Rattle.state.specs.declared.Side.{Side}
 use Rattle.state.specs.declared.Side.the-variants as side
 use Rattle.protocol.specs.Receipt.{dataTo}
 use Rattle.protocol.specs.Plan.{settle}
+use Rattle.protocol.specs.Judge.{faultOf}
 use Rattle.session_receive.specs.Receipt.{toReceipt}
 use Rattle.session_receive.proofs.data_messages.data_to_open.Statement.{statement}
 use Rattle.session_receive.proofs.data_messages.data_to_open.Tie as tie
 
 -- the ration is checked before the close flag
 above : (r : Role) (x : Session) (n : ℕ) (close : Bool) (theirs : Side) → allows (x .inbound) n ≡ false
-    → violation 26 ≡ toReceipt (dataTo r x n close side.Open theirs)
+    → violation (faultOf 26) ≡ toReceipt (dataTo r x n close side.Open theirs)
 unfolding settle
 above r x n true theirs e = simp e
 above r x n false theirs e = simp e

@@ -37,10 +37,8 @@ returns-5 c =
 
 returns-6 : tie.Need-returns-6
 returns-6 c =
-    let answer5 = c .before .before .before .before .answer5 in
-    let a = c .before .before .before .before .before .before .args in
-    rw (answer5 .given .1) (same-text (c .item5 .ensures) (ap (λ (k : ℕ). added (lineText (a .line)) (itemText " refused " k))
-    (c .before .number2 .ensures)))
+    let answer5 = c .before .before .answer5 in
+    rw (answer5 .given .1) (c .with-fault .ensures)
 
 pub answered-spec : {M : Type 1} → statement M
 answered-spec =
@@ -50,5 +48,5 @@ answered-spec =
     (λ c. search needs) (λ c κs. search needs) (λ c. search needs) (λ c. search needs) (λ c. search needs)
     (λ c κs. search needs) (λ c. search needs) (λ c κs. search needs) (λ c. search needs) (λ c κs. search needs)
     (λ c. search needs) (λ c. search needs) (λ c κs. search needs) (λ c. search needs) (λ c κs. search needs)
-    (λ c. search needs) (λ c. search needs) (λ c κs. search needs) (λ c. search needs) (λ c κs. search needs) returns
+    (λ c. search needs) (λ c κs. search needs) returns
     returns-2 returns-3 returns-4 returns-5 returns-6)

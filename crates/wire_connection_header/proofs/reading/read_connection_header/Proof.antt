@@ -13,7 +13,7 @@ returns-2 : tie.Need-returns-2
 returns-2 c = header-long _ (c .before .before .before .before .before .before .before .before .before .before .before .before .if1 .left) (ap headerParsedAs (sym (c .before .n .given .1)) ∙ c .before .before .before .parse-connection-header .ensures)
 
 returns-3 : tie.Need-returns-3
-returns-3 c = header-long _ (c .before .before .before .before .before .before .before .before .before .before .before .before .if1 .left) (ap headerParsedAs (sym (c .before .v .given .1)) ∙ c .before .before .before .parse-connection-header .ensures)
+returns-3 c = header-long _ (c .before .before .before .before .before .before .before .before .before .before .before .before .if1 .left) (ap headerParsedAs (sym (c .before .fault .given .1)) ∙ c .before .before .before .parse-connection-header .ensures)
 
 pub read-connection-header-spec : {M : Type 1} → statement M
 read-connection-header-spec =

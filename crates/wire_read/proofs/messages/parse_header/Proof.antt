@@ -16,17 +16,26 @@ returns c =
     header-clear _ _ _ _ _ (sym (clear .before .before .before .before .kind-of .ensures) ∙ clear .before .before .named .given .1)
     (via (clear .reserved-clear .ensures) (message .before .if1 .taken)) (message .message-of .ensures) (c .if-allowed .ensures)
 
+wrong-place-requires : tie.Need-wrong-place-requires
+wrong-place-requires c κs =
+    let clear = c .before in (
+      sym (clear .before .before .before .before .kind-of .ensures) ∙ clear .before .before .named .given .1,
+      via (clear .reserved-clear .ensures) (c .if1 .left),
+    )
+
 returns-2 : tie.Need-returns-2
 returns-2 c =
-    header-reserved _ _ _ _ _ (sym (c .before .before .before .before .before .kind-of .ensures) ∙ c .before .before .before .named .given .1)
-    (via (c .before .reserved-clear .ensures) (c .if1 .left))
+    let left = c .before in
+    let clear = left .before in
+    header-reserved _ _ _ _ _ (sym (clear .before .before .before .before .kind-of .ensures) ∙ clear .before .before .named .given .1)
+    (via (clear .reserved-clear .ensures) (left .if1 .left)) (c .wrong-place .ensures)
 
 returns-3 : tie.Need-returns-3
-returns-3 c = header-unknown _ _ _ _ _ (sym (c .before .before .kind-of .ensures) ∙ c .enum-told .given .1)
+returns-3 c = c .at-first .ensures ∙ header-unknown _ _ _ _ _ (sym (c .before .before .before .kind-of .ensures) ∙ c .before .enum-told .given .1)
 
 pub parse-header-spec : {M : Type 1} → statement M
 parse-header-spec =
     tie.close
     (tie.spec
     (λ c κs. search needs) (λ c. search needs) reserved-clear-requires (λ c κs. search needs) (λ c κs. search needs)
-    returns (λ c. search needs) returns-2 returns-3)
+    returns wrong-place-requires (λ c. search needs) (λ c κs. search needs) returns-2 returns-3)

@@ -1,0 +1,2 @@
+-- What the reader's answers say.
+pub mod Answers
