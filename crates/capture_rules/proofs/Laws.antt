@@ -25,11 +25,11 @@ use Rattle.capture_rules.specs.Reading.{WholeMessage, wholeBytes, Messag
 use Rattle.capture_rules.proofs.Steps.{within}
 
 -- what a capture with a message at a place has there
-record Stands (from : Role) (s : List ℕ) (place : ℕ) (m : Message) : Type 0 where
-  reads : readMessage from (drop place s) ≡ ok m
-  long : place + 4 + bodyLength m ≤ length s
+pub record Stands (from : Role) (s : List ℕ) (place : ℕ) (m : Message) : Type 0 where
+  pub reads : readMessage from (drop place s) ≡ ok m
+  pub long : place + 4 + bodyLength m ≤ length s
 
-stands : (from : Role) (s : List ℕ) (place : ℕ) (m : Message) → messageAt from s place ≡ ok m → Stands from s place m
+pub stands : (from : Role) (s : List ℕ) (place : ℕ) (m : Message) → messageAt from s place ≡ ok m → Stands from s place m
 unfolding messageAt pick
 stands from s place m e = go (ltb (length s) place) refl e
   where
@@ -206,6 +206,39 @@ module _ (from : Role) (s : List ℕ) where
       let n = r .end - place in
       up-to-only (r .messages) (length s) place (r .end) (drop n (drop place s)) (omega arith) (x .each)
       (sym (take-append-drop n (drop place s)) ∙ ap (λ (l : List ℕ). l ++ drop n (drop place s)) (sym (x .bytes))) (x .ends) (x .stops)
+
+-- ---- one message more, or none
+
+module _ (from : Role) (s : List ℕ) where
+  -- any limit that the bytes left do not exceed gives the same reading
+  same-limit : (n k place : ℕ) → length s ≤ place + n → length s ≤ place + k → readUpTo n from s place ≡ readUpTo k from s place
+  unfolding readUpTo
+  same-limit zero k place h l = none-only from s k place (λ m e. let at = stands from s place m e .long in omega arith)
+  same-limit (suc n) zero place h l = sym (none-only from s (suc n) place (λ m e. let at = stands from s place m e .long in omega arith))
+  same-limit (suc n) (suc k) place h l = go (messageAt from s place) (same-limit n k)
+    where
+      go : (r : Result Message) → ((p : ℕ) → length s ≤ p + n → length s ≤ p + k → readUpTo n from s p ≡ readUpTo k from s p)
+          → prepended s place r (readUpTo n from s (placeAfter place r)) ≡ prepended s place r (readUpTo k from s (placeAfter place r))
+      go (ok m) same = ap (prepended s place (ok m)) (same (place + 4 + bodyLength m) (omega arith) (omega arith))
+      go (refused i) same = refl
+      go (violation i) same = refl
+
+  -- a message comes before all that is read from the place after it
+  pub reads-on : (place : ℕ) (m : Message) → messageAt from s place ≡ ok m
+      → readAll from s place ≡ prepended s place (ok m) (readAll from s (place + 4 + bodyLength m))
+  unfolding readAll readUpTo
+  reads-on place m e = go (length s) refl
+    where
+      go : (n : ℕ) → length s ≡ n → readUpTo n from s place ≡ prepended s place (ok m) (readUpTo (length s) from s (place + 4 + bodyLength m))
+      go zero l = let at = stands from s place m e .long in absurd (omega arith)
+      go (suc n) l =
+          ap (λ (r : Result Message). prepended s place r (readUpTo n from s (placeAfter place r))) e
+          ∙ ap (prepended s place (ok m)) (same-limit n (length s) (place + 4 + bodyLength m) (omega arith) (omega arith))
+
+  -- without a message at the place nothing is read
+  pub reads-none : (place : ℕ) → ((m : Message) → messageAt from s place ≡ ok m → ⊥) → readAll from s place ≡ record { messages = []; end = place }
+  unfolding readAll
+  reads-none place refuses = sym (none-only from s (length s) place refuses)
 
 -- until the first refusal reading gives exactly the messages whose bytes the capture has, from any place, and it ends
 pub read-exactly : (from : Role) (s : List ℕ) → Bytes s → (place : ℕ) (r : MessagesRead) → (r ≡ readAll from s place) ↔ Exact from s place r

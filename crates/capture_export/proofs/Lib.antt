@@ -1,0 +1,3 @@
+-- The laws of the words.
+pub mod Numbers
+pub mod Laws

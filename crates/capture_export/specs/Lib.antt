@@ -1,0 +1,3 @@
+-- What is at a place of a capture, in words.
+pub mod Words
+pub mod Answers

@@ -1,0 +1,3 @@
+-- The laws of the scan.
+pub mod Laws
+mod Tallies

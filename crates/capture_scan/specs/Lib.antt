@@ -1,0 +1,3 @@
+-- What all messages of a capture come to.
+pub mod Scan
+pub mod Tallies
