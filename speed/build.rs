@@ -8,7 +8,10 @@ fn main() {
     println!("cargo:rerun-if-env-changed=JMUX_ARCHIVES");
     println!("cargo:rustc-link-search=native={}", folder.display());
     for name in ["capture_export", "capture_scan"] {
-        println!("cargo:rerun-if-changed={}", folder.join(format!("lib{name}.a")).display());
+        println!(
+            "cargo:rerun-if-changed={}",
+            folder.join(format!("lib{name}.a")).display()
+        );
         println!("cargo:rustc-link-lib=static={name}");
     }
 }

@@ -32,20 +32,27 @@ impl Numbers {
     }
 }
 
-/// The first bytes of the types that a sender may send, each type as often as any other, with flags that it may set.
+/// A first byte of a type that a sender may send, each type as often as any other, with flags that
+/// it may set.
 fn first_byte(numbers: &mut Numbers, from: Sender) -> u8 {
     let increment = 0x10 + 2 * numbers.below(8) as u8;
     let (abort, data, others): (u8, &[u8], &[u8]) = match from {
         Sender::Client => (0x20, &[0x80, 0x84, 0x90, 0x94], &[0x40]),
         Sender::Server => {
             let partial = 2 * numbers.below(2) as u8;
-            (0x20 + partial, &[0x80, 0x84, 0x86, 0x8c, 0x8e], &[0x02, 0x30])
+            (
+                0x20 + partial,
+                &[0x80, 0x84, 0x86, 0x8c, 0x8e],
+                &[0x02, 0x30],
+            )
         }
     };
     let data = data[numbers.below(data.len())];
     let shared = [0x00, 0x04, 0x06, 0x08, increment, abort, data];
     let which = numbers.below(shared.len() + others.len());
-    *shared.get(which).unwrap_or_else(|| &others[which - shared.len()])
+    *shared
+        .get(which)
+        .unwrap_or_else(|| &others[which - shared.len()])
 }
 
 /// Whether bytes follow the header of a type, as many as its bytes 2 and 3 say.
@@ -54,7 +61,11 @@ fn has_body(first: u8) -> bool {
 }
 
 fn push_message(capture: &mut Vec<u8>, numbers: &mut Numbers, first: u8, body: usize) {
-    let session = if first < 0x10 { 0 } else { numbers.byte() & 127 };
+    let session = if first < 0x10 {
+        0
+    } else {
+        numbers.byte() & 127
+    };
     let number = match first {
         0x30 | 0x40 => [0, 0],
         _ if has_body(first) => (body as u16).to_be_bytes(),
@@ -80,7 +91,12 @@ pub fn data(payload: usize, from: Sender) -> Vec<u8> {
     let mut capture = HEADER.to_vec();
     while capture.len() + 4 + payload + 4 <= SIZE {
         let opens = from == Sender::Client && capture.len() == HEADER.len();
-        push_message(&mut capture, &mut numbers, if opens { 0x90 } else { 0x80 }, payload);
+        push_message(
+            &mut capture,
+            &mut numbers,
+            if opens { 0x90 } else { 0x80 },
+            payload,
+        );
     }
     filled(capture)
 }
@@ -94,6 +110,13 @@ pub fn mixed(from: Sender) -> Vec<u8> {
         push_message(&mut capture, &mut numbers, first, body);
     }
     filled(capture)
+}
+
+/// 70,000 Pings with the largest cookie: the place passes 16 bits, and the sum 48.
+pub fn long() -> Vec<u8> {
+    let mut capture = HEADER.to_vec();
+    capture.extend([0x04, 0x00, 0xff, 0xff].repeat(70_000));
+    capture
 }
 
 /// A capture of up to 40 messages that a sender may send.
@@ -130,5 +153,13 @@ pub fn cut(numbers: &mut Numbers, from: Sender) -> Vec<u8> {
 /// Up to 64 bytes of any value; one of four is 0, so that headers with reserved bytes come up.
 pub fn random(numbers: &mut Numbers) -> Vec<u8> {
     let length = numbers.below(65);
-    (0..length).map(|_| if numbers.below(4) == 0 { 0 } else { numbers.byte() }).collect()
+    (0..length)
+        .map(|_| {
+            if numbers.below(4) == 0 {
+                0
+            } else {
+                numbers.byte()
+            }
+        })
+        .collect()
 }

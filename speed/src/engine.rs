@@ -1,10 +1,17 @@
-//! The engine's reader, as its archives export it: the only part of this program that is `unsafe`. Each call is in an archive of
-//! its own, so that the compiler sees one caller of the reader in each and inlines it there, as `#[inline(always)]` does in Rust.
+//! The engine's reader, as its archives export it: the only part of this program that is `unsafe`.
+//! Each call is in an archive of its own, so that the compiler sees one caller of the reader in
+//! each and inlines it there, as `#[inline(always)]` does in Rust.
 use crate::message::{Sender, Tally};
 use crate::words::{Found, WORDS};
 
 extern "C" {
-    fn jmux_read_at(capture: *const u8, length: usize, server: bool, place: usize, found: *mut [u64; WORDS]);
+    fn jmux_read_at(
+        capture: *const u8,
+        length: usize,
+        server: bool,
+        place: usize,
+        found: *mut [u64; WORDS],
+    );
     fn jmux_read_all(capture: *const u8, length: usize, server: bool, found: *mut [u64; 5]);
 }
 
@@ -24,5 +31,11 @@ pub fn read_all(capture: &[u8], from: Sender) -> Tally {
     // As above.
     unsafe { jmux_read_all(capture.as_ptr(), capture.len(), server, &mut found) };
     let [number, fault, place, messages, sum] = found;
-    Tally { number, fault, place, messages, sum }
+    Tally {
+        number,
+        fault,
+        place,
+        messages,
+        sum,
+    }
 }

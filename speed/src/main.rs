@@ -1,4 +1,5 @@
-//! Reads captures with the engine's reader and with two of Rust, compares what they find, and times them.
+//! Reads captures with the engine's reader and with two of Rust, compares what they find, and times
+//! them.
 mod captures;
 mod compare;
 mod engine;
@@ -28,7 +29,8 @@ fn captures() -> Result<String, String> {
 
 fn run(reader: &str, capture: &str, often: &str) -> Result<String, String> {
     let scan = times::SCANS.iter().find(|(name, _)| *name == reader);
-    let (Some((_, scan)), Ok(capture), Ok(often)) = (scan, capture.parse::<usize>(), often.parse()) else {
+    let (Some((_, scan)), Ok(capture), Ok(often)) = (scan, capture.parse::<usize>(), often.parse())
+    else {
         return Err(USAGE.to_string());
     };
     let captures = times::captures();

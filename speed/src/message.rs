@@ -9,16 +9,45 @@ pub enum Sender {
 
 #[derive(Clone, Copy, PartialEq, Eq, Debug)]
 pub enum Message {
-    NoOperation { length: u16 },
-    Shutdown { length: u16 },
-    Ping { cookie: u16 },
-    PingAck { cookie: u16 },
-    Error { length: u16 },
-    IncrementRation { shift: u8, session: u8, increment: u16 },
-    Abort { partial: bool, session: u8, length: u16 },
-    Close { session: u8 },
-    Acknowledgment { session: u8 },
-    Data { open: bool, close: bool, eof: bool, ack_required: bool, session: u8, length: u16 },
+    NoOperation {
+        length: u16,
+    },
+    Shutdown {
+        length: u16,
+    },
+    Ping {
+        cookie: u16,
+    },
+    PingAck {
+        cookie: u16,
+    },
+    Error {
+        length: u16,
+    },
+    IncrementRation {
+        shift: u8,
+        session: u8,
+        increment: u16,
+    },
+    Abort {
+        partial: bool,
+        session: u8,
+        length: u16,
+    },
+    Close {
+        session: u8,
+    },
+    Acknowledgment {
+        session: u8,
+    },
+    Data {
+        open: bool,
+        close: bool,
+        eof: bool,
+        ack_required: bool,
+        session: u8,
+        length: u16,
+    },
 }
 
 /// Why there is no message: the number, and for 20, 21, 23 and 24 the place of the byte at fault in the message.
@@ -81,12 +110,30 @@ impl Message {
             Message::Ping { cookie } => items(3, 0, 0, cookie),
             Message::PingAck { cookie } => items(4, 0, 0, cookie),
             Message::Error { length } => items(5, 0, 0, length),
-            Message::IncrementRation { shift, session, increment } => items(6, shift.into(), session, increment),
-            Message::Abort { partial, session, length } => items(7, partial.into(), session, length),
+            Message::IncrementRation {
+                shift,
+                session,
+                increment,
+            } => items(6, shift.into(), session, increment),
+            Message::Abort {
+                partial,
+                session,
+                length,
+            } => items(7, partial.into(), session, length),
             Message::Close { session } => items(8, 0, session, 0),
             Message::Acknowledgment { session } => items(9, 0, session, 0),
-            Message::Data { open, close, eof, ack_required, session, length } => {
-                let flags = u64::from(open) + 2 * u64::from(close) + 4 * u64::from(eof) + 8 * u64::from(ack_required);
+            Message::Data {
+                open,
+                close,
+                eof,
+                ack_required,
+                session,
+                length,
+            } => {
+                let flags = u64::from(open)
+                    + 2 * u64::from(close)
+                    + 4 * u64::from(eof)
+                    + 8 * u64::from(ack_required);
                 items(10, flags, session, length)
             }
         }

@@ -18,7 +18,13 @@ fn tally(capture: &[u8], read: impl Fn(&[u8], usize) -> Step) -> Tally {
             }
             Err(refused) => {
                 let (number, fault) = (refused.number.into(), refused.place.into());
-                return Tally { number, fault, place: place as u64, messages, sum };
+                return Tally {
+                    number,
+                    fault,
+                    place: place as u64,
+                    messages,
+                    sum,
+                };
             }
         }
     }
@@ -26,7 +32,9 @@ fn tally(capture: &[u8], read: impl Fn(&[u8], usize) -> Step) -> Tally {
 
 #[inline(never)]
 pub fn simple_scan(capture: &[u8], from: Sender) -> Tally {
-    tally(capture, |capture, place| simple::read_at(capture, from, place))
+    tally(capture, |capture, place| {
+        simple::read_at(capture, from, place)
+    })
 }
 
 #[inline(never)]
@@ -58,13 +66,23 @@ pub fn engine_call(capture: &[u8], from: Sender, place: usize, found: &mut Found
 }
 
 #[inline(always)]
-fn tally_calls(capture: &[u8], from: Sender, call: impl Fn(&[u8], Sender, usize, &mut Found)) -> Tally {
+fn tally_calls(
+    capture: &[u8],
+    from: Sender,
+    call: impl Fn(&[u8], Sender, usize, &mut Found),
+) -> Tally {
     let (mut place, mut messages, mut sum) = (FIRST_PLACE, 0, 0_u64);
     let mut found = [0; WORDS];
     loop {
         call(capture, from, place, &mut found);
         if found[0] != 0 {
-            return Tally { number: found[0], fault: found[1], place: found[2], messages, sum };
+            return Tally {
+                number: found[0],
+                fault: found[1],
+                place: found[2],
+                messages,
+                sum,
+            };
         }
         place = found[2] as usize;
         messages += 1;

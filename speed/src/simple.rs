@@ -1,4 +1,5 @@
-//! A reader as anybody would write it: a match on the first byte, with the rules of each type in the order of their numbers.
+//! A reader as anybody would write it: a match on the first byte, with the rules of each type in
+//! the order of their numbers.
 use crate::message::{Message, Refused, Sender, Step};
 
 #[inline(always)]
@@ -27,14 +28,27 @@ pub fn read_at(capture: &[u8], from: Sender, place: usize) -> Step {
         0x04 => Message::Ping { cookie: number },
         0x06 => Message::PingAck { cookie: number },
         0x08 => Message::Error { length: number },
-        _ if first & 0xf1 != 0x10 && first & 0xfd != 0x20 && first != 0x30 && first != 0x40 && first & 0xe1 != 0x80 => {
+        _ if first & 0xf1 != 0x10
+            && first & 0xfd != 0x20
+            && first != 0x30
+            && first != 0x40
+            && first & 0xe1 != 0x80 =>
+        {
             return refused(20, 0)
         }
         // Every type that is left has a session.
         _ if second > 127 => return refused(21, 1),
-        _ if first & 0xf1 == 0x10 => Message::IncrementRation { shift: first >> 1 & 7, session: second, increment: number },
+        _ if first & 0xf1 == 0x10 => Message::IncrementRation {
+            shift: first >> 1 & 7,
+            session: second,
+            increment: number,
+        },
         0x22 if !server => return refused(24, 0),
-        0x20 | 0x22 => Message::Abort { partial: first == 0x22, session: second, length: number },
+        0x20 | 0x22 => Message::Abort {
+            partial: first == 0x22,
+            session: second,
+            length: number,
+        },
         0x30 | 0x40 if number > 255 => return refused(21, 2),
         0x30 | 0x40 if number > 0 => return refused(21, 3),
         0x30 if !server => return refused(23, 0),
@@ -47,7 +61,14 @@ pub fn read_at(capture: &[u8], from: Sender, place: usize) -> Step {
             if open && server || (close || ack_required) && !(server && eof) {
                 return refused(24, 0);
             }
-            Message::Data { open, close, eof, ack_required, session: second, length: number }
+            Message::Data {
+                open,
+                close,
+                eof,
+                ack_required,
+                session: second,
+                length: number,
+            }
         }
     };
     let size = 4 + message.body();

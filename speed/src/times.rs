@@ -1,7 +1,10 @@
-//! Times the three readers on six captures of 48 KiB: medians of repeats that take turns in one process.
+//! Times the three readers on six captures of 48 KiB: medians of repeats that take turns in one
+//! process.
 use crate::captures::{data, mixed, SIZE};
 use crate::message::{Sender, Tally};
-use crate::readers::{engine_calls, engine_scan, simple_calls, simple_scan, tuned_calls, tuned_scan, Scan};
+use crate::readers::{
+    engine_calls, engine_scan, simple_calls, simple_scan, tuned_calls, tuned_scan, Scan,
+};
 use std::hint::black_box;
 use std::time::{Duration, Instant};
 
@@ -50,7 +53,8 @@ fn often(capture: &[u8], from: Sender) -> u32 {
     often
 }
 
-/// The medians of the readers in nanoseconds for a message. Each repeat begins with another reader.
+/// The medians of the readers in nanoseconds for a message. The readers follow each other in the
+/// same circle, and each repeat begins with another one.
 fn medians(capture: &[u8], from: Sender, messages: u64) -> [f64; SCANS.len()] {
     let often = often(capture, from);
     let mut times: [Vec<Duration>; SCANS.len()] = Default::default();
@@ -69,32 +73,42 @@ fn medians(capture: &[u8], from: Sender, messages: u64) -> [f64; SCANS.len()] {
 /// What a capture comes to, if all readers agree.
 pub fn agreed(capture: &[u8], from: Sender) -> Result<Tally, String> {
     let tallies = SCANS.map(|(_, scan)| scan(capture, from));
-    if capture.len() != SIZE || tallies.iter().any(|tally| *tally != tallies[0] || tally.place != SIZE as u64) {
-        return Err(format!("the readers disagree on a capture of the {from:?}: {tallies:?}"));
+    if capture.len() != SIZE
+        || tallies
+            .iter()
+            .any(|tally| *tally != tallies[0] || tally.place != SIZE as u64)
+    {
+        return Err(format!(
+            "the readers do not all read the capture of the {from:?} to its end: {tallies:?}"
+        ));
     }
     Ok(tallies[0])
 }
 
+/// The times of three readers, and the ratios of the engine's to the others.
+fn columns([simple, tuned, engine]: [f64; 3]) -> String {
+    let (to_simple, to_tuned) = (engine / simple, engine / tuned);
+    format!("{simple:>9.2}{tuned:>8.2}{engine:>8.2}{to_simple:>9.2}{to_tuned:>8.2}")
+}
+
 /// The table of times and ratios.
 pub fn table() -> Result<String, String> {
+    let heads = format!(
+        "{:>9}{:>8}{:>8}{:>9}{:>8}",
+        "simple", "tuned", "engine", "/simple", "/tuned"
+    );
     let mut lines = vec![
-        "Nanoseconds for a message, medians, and the ratios of the engine to the two readers of Rust.".to_string(),
-        format!(
-            "{:<28}{:>8}  {:>23}{:>8}{:>8}  {:>23}{:>8}{:>8}",
-            "capture", "messages", "scan: simple tuned engine", "/simple", "/tuned", "call: simple tuned engine", "/simple", "/tuned"
-        ),
+        "Nanoseconds for a message, medians: a scan of the capture, and a call for each message."
+            .into(),
+        "Behind each the ratios of the engine's reader to the two of Rust.".into(),
+        format!("{:<28}{:>8}{heads}{heads}", "capture", "messages"),
     ];
     for (name, from, capture) in captures() {
         let messages = agreed(&capture, from)?.messages;
-        let [simple, tuned, engine, simple_calls, tuned_calls, engine_calls] = medians(&capture, from, messages);
-        lines.push(format!(
-            "{:<28}{messages:>8}  {simple:>11.2} {tuned:>6.2} {engine:>6.2}{:>8.2}{:>8.2}  {simple_calls:>11.2} {tuned_calls:>6.2} {engine_calls:>6.2}{:>8.2}{:>8.2}",
-            format!("{name}, {from:?}").to_lowercase(),
-            engine / simple,
-            engine / tuned,
-            engine_calls / simple_calls,
-            engine_calls / tuned_calls,
-        ));
+        let [a, b, c, d, e, f] = medians(&capture, from, messages);
+        let name = format!("{name}, {from:?}").to_lowercase();
+        let (scans, calls) = (columns([a, b, c]), columns([d, e, f]));
+        lines.push(format!("{name:<28}{messages:>8}{scans}{calls}"));
     }
     Ok(lines.join("\n"))
 }

@@ -1,4 +1,5 @@
-//! A reader written for speed: one load for the header, Data first, each type's rules in its own arm, and a reader for each sender.
+//! A reader written for speed: one load for the header, Data first, each type's rules in its own
+//! arm, and a reader for each sender.
 use crate::message::{Message, Refused, Sender, Step};
 
 /// The flags of Data that a sender may set, a bit for each of the 16 values of the four flag bits.
@@ -75,12 +76,20 @@ fn other<const SERVER: bool>(rest: &[u8], place: usize, word: u32) -> Step {
         0x06 => whole(Message::PingAck { cookie: number }, rest, place, 0),
         0x08 => whole(Message::Error { length: number }, rest, place, number),
         0x10 | 0x12 | 0x14 | 0x16 | 0x18 | 0x1a | 0x1c | 0x1e if second < 128 => {
-            let message = Message::IncrementRation { shift: first >> 1 & 7, session: second, increment: number };
+            let message = Message::IncrementRation {
+                shift: first >> 1 & 7,
+                session: second,
+                increment: number,
+            };
             whole(message, rest, place, 0)
         }
         0x22 if second < 128 && !SERVER => refused(24),
         0x20 | 0x22 if second < 128 => {
-            let message = Message::Abort { partial: first == 0x22, session: second, length: number };
+            let message = Message::Abort {
+                partial: first == 0x22,
+                session: second,
+                length: number,
+            };
             whole(message, rest, place, number)
         }
         0x30 | 0x40 if second < 128 && number != 0 => reserved(if number > 255 { 2 } else { 3 }),
@@ -89,7 +98,12 @@ fn other<const SERVER: bool>(rest: &[u8], place: usize, word: u32) -> Step {
         0x40 if second < 128 && SERVER => refused(23),
         0x40 if second < 128 => whole(Message::Acknowledgment { session: second }, rest, place, 0),
         // Every type that is left has a session, and byte 1 is above 127.
-        _ if matches!(first, 0x20 | 0x22 | 0x30 | 0x40) || first & 0xf1 == 0x10 || first & 0xe1 == 0x80 => reserved(1),
+        _ if matches!(first, 0x20 | 0x22 | 0x30 | 0x40)
+            || first & 0xf1 == 0x10
+            || first & 0xe1 == 0x80 =>
+        {
+            reserved(1)
+        }
         _ => refused(20),
     }
 }

@@ -1,7 +1,7 @@
 -- The laws of the words: they tell messages apart, and steps; and the number of a type is its row in the published table.
 use mathlib.Core.Path.{_≡_, refl, sym, ap, _∙_}
 use mathlib.Core.Bool.{Bool, true, false}
-use mathlib.Core.List.{List, []}
+use mathlib.Core.List.{List, [], _∷_}
 use Prim.Native.Nat.{ℕ, _-_, _/_, _%_}
 use native.Mathlib.Omega.{arith}
 use lib.Dec.{eqb}
@@ -19,18 +19,18 @@ use Rattle.capture_export.proofs.Numbers.{InRange, in-range}
 
 -- ---- messages
 
--- a type's row in the published table is the one with its number, counted from 1
-pub in-table : (k : Kind) (other : TypeRow) → getD typeTable (kindNumber k - 1) other .kind ≡ k
-in-table kind.NoOperation other = refl
-in-table kind.Shutdown other = refl
-in-table kind.Ping other = refl
-in-table kind.PingAck other = refl
-in-table kind.Error other = refl
-in-table kind.IncrementRation other = refl
-in-table kind.Abort other = refl
-in-table kind.Close other = refl
-in-table kind.Acknowledgment other = refl
-in-table kind.Data other = refl
+-- a type's row in the published table is the one with its number, counted from 1: whatever 0 would be, it is no type's number
+pub in-table : (k : Kind) (none other : TypeRow) → getD (none ∷ typeTable) (kindNumber k) other .kind ≡ k
+in-table kind.NoOperation none other = refl
+in-table kind.Shutdown none other = refl
+in-table kind.Ping none other = refl
+in-table kind.PingAck none other = refl
+in-table kind.Error none other = refl
+in-table kind.IncrementRation none other = refl
+in-table kind.Abort none other = refl
+in-table kind.Close none other = refl
+in-table kind.Acknowledgment none other = refl
+in-table kind.Data none other = refl
 
 -- the flag of this worth
 flagAt : ℕ → ℕ → Bool
@@ -93,7 +93,7 @@ words-tell m l e = sym (told-back m) ∙ ap told e ∙ told-back l
 
 -- ---- steps
 
--- no two results have the same number, place of the fault and words
+-- no two results whose numbers are in range have the same number, place of the fault and words
 results-tell : (r q : Result Message) → InRange r → InRange q → resultNumber r ≡ resultNumber q → faultIn r ≡ faultIn q → itemsIn r ≡ itemsIn q → r ≡ q
 results-tell (ok m) (ok l) h k n f i = ap ok (words-tell m l i)
 results-tell (ok m) (refused b) h k n f i = absurd (omega arith)

@@ -1,3 +1,4 @@
 -- The laws of the words.
 pub mod Numbers
 pub mod Laws
+pub mod Rows

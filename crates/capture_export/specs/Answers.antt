@@ -4,6 +4,7 @@ use mathlib.Core.List.{List, [], _∷_}
 use Rattle.capture_export.specs.declared.Items.{Items}
 use Rattle.capture_export.specs.declared.Finding.{Finding}
 
+-- the words of a message's items
 abbrev pub itemWords : Items → List ℕ
 itemWords i = i .kind ∷ i .flags ∷ i .session ∷ i .value ∷ []
 
@@ -14,5 +15,6 @@ pub record Small (i : Items) : Type 0 where
   pub session : i .session < 256
   pub value : i .value < 65_536
 
+-- the seven words of a place
 abbrev pub foundWords : Finding → List ℕ
 foundWords f = f .number ∷ f .fault ∷ f .next ∷ itemWords (f .items)

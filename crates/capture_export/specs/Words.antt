@@ -11,7 +11,7 @@ use Rattle.wire.specs.declared.Message.{Message}
 use Rattle.wire.specs.declared.Message.the-variants.{NoOperation, Shutdown, Ping, PingAck, Error, IncrementRation, Abort, Close, Acknowledgment, Data}
 use Rattle.wire.specs.Message.{weight, secondByte, numberOf, kindOfMessage}
 
--- a capture is the server's or the client's
+-- the sender of a capture: the server for true, the client for false
 abbrev pub senderOf : Bool → Role
 senderOf true = Server
 senderOf false = Client
@@ -35,7 +35,7 @@ kindNumber kind.Data = 10
 abbrev pub dataFlagsOf : Bool → Bool → Bool → Bool → ℕ
 dataFlagsOf opens close eof ack = weight 1 opens + weight 2 close + weight 4 eof + weight 8 ack
 
--- the flags of Data, 1 for partial, and in their place the shift of an IncrementRation
+-- the flags of Data in one number, 1 for the partial of an Abort, the shift of an IncrementRation, and 0 for every other type
 abbrev pub flagsOf : Message → ℕ
 flagsOf (NoOperation n) = 0
 flagsOf (Shutdown n) = 0
@@ -60,7 +60,7 @@ resultNumber (ok m) = 0
 resultNumber (refused n) = n
 resultNumber (violation f) = f .number
 
--- the place of the byte at fault, where there is one
+-- the place of the byte at fault, where there is one; else 0
 abbrev pub faultIn : Result Message → ℕ
 faultIn (ok m) = 0
 faultIn (refused n) = 0

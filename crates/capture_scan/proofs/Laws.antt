@@ -1,11 +1,11 @@
 -- The law of the sum's numbers: they tell the messages of a capture apart.
 use mathlib.Core.Path.{_≡_, sym, ap, _∙_}
 use mathlib.Core.Bool.{Bool, true, false}
-use mathlib.Core.List.{List}
-use Prim.Native.Nat.{ℕ, _+_, _*_, _%_, _≤_, _<_}
+use mathlib.Core.List.{List, [], _∷_}
+use Prim.Native.Nat.{ℕ, _+_, _*_, _%_, _^_, _≤_, _<_}
 use native.Mathlib.Nat.{add-mul-mod-self-left, mod-eq-of-lt}
 use native.Mathlib.Omega.{arith}
-use lib.ListN.{drop}
+use lib.ListN.{length, drop}
 use lib.Seq.{getD-drop}
 use Rattle.laws.specs.Result.{ok}
 use Rattle.laws.proofs.Lists.{Bytes}
@@ -18,10 +18,11 @@ use Rattle.wire.specs.Message.{weight, secondByte, numberOf, kindOfMessage, bod
 use Rattle.wire.proofs.Laws.{read-writable}
 use Rattle.wire.proofs.Writing.{Writable, writable-has}
 use Rattle.capture_rules.specs.Place.{messageAt}
-use Rattle.capture_rules.proofs.Laws.{stands}
-use Rattle.capture_export.specs.Words.{kindNumber, flagsOf}
+use Rattle.capture_rules.specs.Reading.{WholeMessage, wholeBytes, MessagesRead, readAll, Exact}
+use Rattle.capture_rules.proofs.Laws.{stands, read-exactly}
+use Rattle.capture_export.specs.Words.{kindNumber, flagsOf, resultNumber, faultIn}
 use Rattle.capture_export.proofs.Laws.{words-tell}
-use Rattle.capture_scan.specs.Scan.{packed}
+use Rattle.capture_scan.specs.Scan.{packed, sumOf, readWords, allWords}
 
 kind-small : (k : Kind) → kindNumber k < 16
 kind-small kind.NoOperation = omega arith
@@ -83,3 +84,16 @@ read-packed-tells from to s t bs bt p q m l e f same =
     let h = has from s bs p m e in
     let k = has to t bt q l f in
     packed-tells m l (h .shift) (omega arith) (k .shift) (omega arith) same
+
+-- the words of messages behind which reading ends at a place
+abbrev endWords : Role → List ℕ → List WholeMessage → ℕ → List ℕ
+endWords from s ws end =
+    resultNumber (messageAt from s end) ∷ faultIn (messageAt from s end) ∷ end ∷ length ws ∷ sumOf ws % 2 ^ 64 ∷ []
+
+-- messages that stand one after the other behind 8 bytes, up to an end where there is none, come to these words
+pub scan-tells : (from : Role) (s : List ℕ) (r : MessagesRead) → Bytes s → Exact from s 8 r
+    → allWords from s ≡ endWords from s (r .messages) (8 + length (wholeBytes (r .messages)))
+unfolding allWords
+scan-tells from s r bytes x =
+    let all : readAll from s 8 ≡ r = sym (read-exactly from s bytes 8 r .1 x) in
+    ap (readWords from s) all ∙ ap (endWords from s (r .messages)) (x .ends)

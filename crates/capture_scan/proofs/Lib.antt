@@ -1,3 +1,4 @@
 -- The laws of the scan.
 pub mod Laws
 mod Tallies
+pub mod Rows

@@ -2,60 +2,55 @@
 use capture_rules::Next;
 use capture_rules::Step;
 use refusal::Refusal;
-use wire::Message;
 use wire::Role;
-use wire_fields::body_length;
 use wire_read::Read;
-use wire_read::read_message;
+use wire_read::Sized;
+use wire_read::read_sized;
 ghost use mathlib.Core.Path.{_≡_};
 ghost use Prim.Native.Nat.{_+_, _<_, _^_};
-ghost use Rattle.laws.specs.Result.{ok, refused};
+ghost use Rattle.laws.specs.Result.{refused};
 ghost use Rattle.wire_read.specs.Answer.{readAs};
-ghost use Rattle.capture_rules.specs.Place.{placeAfter, stepAt, nextAs, stepAs};
-
-// A refusal or a violation at a place; the place stays the same.
-fn kept(next: Next, place: usize) -> Step
-    ensures { λ r. ⌜ stepAs r ≡ (nextAs next, place) ⌝ }
-{
-    Step { next, place }
-}
+ghost use Rattle.capture_rules.specs.Place.{stepAt, nextAs, stepAs};
 
 // A place past the end, which is refused.
 fn past_the_end(place: usize) -> Step
     ensures { λ r. ⌜ stepAs r ≡ (refused 14, place) ⌝ }
 {
-    kept(Next::Refused(Refusal::IllFormed), place)
+    Step {
+        next: Next::Refused(Refusal::IllFormed),
+        place,
+    }
 }
 
-// A message that was read at a place, and the place after it.
-fn after(message: Message, place: usize) -> Step
-    requires { ⌜ place < 2 ^ 63 ⌝ }
-    ensures { λ r. ⌜ stepAs r ≡ (ok message, placeAfter place (ok message)) ⌝ }
+// What was read at a place.
+fn next_of(read: Read) -> Next
+    ensures { λ r. ⌜ nextAs r ≡ readAs read ⌝ }
 {
-    Step {
-        next: Next::Message(message),
-        place: place + 4 + (body_length(message) as usize),
+    match read {
+        Read::Message(message) => Next::Message(message),
+        Read::Incomplete => Next::Refused(Refusal::Incomplete),
+        Read::Violated(fault) => Next::Violated(fault),
     }
 }
 
 // What was read at a place, and the place to read on from.
-fn step_of(read: Read, place: usize) -> Step
-    requires { ⌜ place < 2 ^ 63 ⌝ }
-    ensures { λ r. ⌜ stepAs r ≡ (readAs read, placeAfter place (readAs read)) ⌝ }
+fn step_of(sized: Sized, place: usize) -> Step
+    requires { ⌜ place + sized .size < 2 ^ 64 ⌝ }
+    ensures { λ r. ⌜ stepAs r ≡ (readAs (sized .read), place + sized .size) ⌝ }
 {
-    match read {
-        Read::Message(message) => after(message, place),
-        Read::Incomplete => kept(Next::Refused(Refusal::Incomplete), place),
-        Read::Violated(fault) => kept(Next::Violated(fault), place),
+    let read = sized.read;
+    Step {
+        next: next_of(read),
+        place: place + sized.size,
     }
 }
 
-// The message from a sender at a place, and the place after it.
+// What a sender's capture has at a place, and the place to read on from.
 pub fn next_at(capture: &[u8], from: Role, place: usize) -> Step
     ensures { λ r. ⌜ stepAs r ≡ stepAt from (now (capture .entry)) place ⌝ }
 {
     if capture.len() < place {
         return past_the_end(place);
     }
-    step_of(read_message(from, &capture[place..]), place)
+    step_of(read_sized(from, &capture[place..]), place)
 }

@@ -12,5 +12,7 @@ pub use items::second_byte;
 pub use items::shift_of;
 pub use roles::is_client;
 pub use roles::is_server;
+pub use senders::abort_flags;
+pub use senders::data_flags;
 pub use senders::flags_allowed;
 pub use senders::may_send;

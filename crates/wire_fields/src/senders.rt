@@ -25,7 +25,8 @@ pub fn may_send(from: Role, kind: Kind) -> bool
     }
 }
 
-fn data_flags(from: Role, opens: bool, close: bool, eof: bool, ack: bool) -> bool
+// Whether a sender may set these flags of Data.
+pub fn data_flags(from: Role, opens: bool, close: bool, eof: bool, ack: bool) -> bool
     ensures { λ r. ⌜ r ≡ dataFlags from opens close eof ack ⌝ }
 {
     match from {
@@ -42,7 +43,8 @@ fn data_flags(from: Role, opens: bool, close: bool, eof: bool, ack: bool) -> boo
     }
 }
 
-fn abort_flags(from: Role, partial: bool) -> bool
+// Whether a sender may set this flag of an Abort.
+pub fn abort_flags(from: Role, partial: bool) -> bool
     ensures { λ r. ⌜ r ≡ onlyIf partial (isServer from) ⌝ }
 {
     !partial | is_server(from)

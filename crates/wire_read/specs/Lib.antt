@@ -1,2 +1,3 @@
 -- The definitions of the reader's answers.
 pub mod Answer
+pub mod Order

@@ -1,10 +1,11 @@
 // The reader of messages.
-mod kinds;
-mod layouts;
+mod headers;
 mod messages;
+mod sizes;
 
 pub use messages::parse_header;
 pub use messages::read_message;
+pub use messages::read_sized;
 use refusal::Fault;
 use wire::Message;
 
@@ -19,4 +20,10 @@ pub enum Read {
     Message(Message),
     Incomplete,
     Violated(Fault),
+}
+
+// What is at the front of an input, and how many bytes the message has, its header and its body; 0 where there is none.
+pub struct Sized {
+    pub read: Read,
+    pub size: usize,
 }

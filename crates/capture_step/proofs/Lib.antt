@@ -1,0 +1,2 @@
+-- The place after what was read.
+pub mod Sizes
