@@ -5,7 +5,6 @@ use mathlib.Core.List.{List, [], _∷_, _++_}
 use Prim.Native.Nat.{ℕ, _+_, _*_, _/_, _%_, _<_}
 use native.Mathlib.Omega.{arith}
 use lib.Dec.{T, eqb, ltb}
-use borrow.Author.Tests.{eq-eqb, ne-eqb}
 use lib.ListN.{getD, take, drop, take-append-drop}
 use Rattle.wire.specs.declared.Kind.{Kind}
 use Rattle.wire.specs.declared.Kind.the-variants as kind
@@ -202,37 +201,6 @@ module _ (a b c d : ℕ) (hb : b < 256) (hc : c < 256) (hd : d < 256) where
       (ap (λ (rs : List LayoutRow). firstWrong rs h) (sym (take-append-drop (firstRows k) (layout k)))
       ∙ passed-over (take (firstRows k) (layout k)) (drop (firstRows k) (layout k)) h (first-only a b c d k ∙ first-fixed a ha k e)
       ∙ rest-wrong k (fixed-clear a b c d hb hc hd ha k k refl e ∙ f))
-
--- byte 1 is wrong by itself, or bytes 2 and 3 have to be 0
-by-second : (k : Kind) (b c d : ℕ) → clear k b c d ≡ false → pick (clear k b 0 0) (pick (eqb c 0) 3 2) 1 ≡ wrongPlace k b c
-by-second kind.NoOperation b c d e = no _ _ _ e
-by-second kind.Shutdown b c d e = no _ _ _ e
-by-second kind.Ping b c d e = no _ _ _ e
-by-second kind.PingAck b c d e = no _ _ _ e
-by-second kind.Error b c d e = no _ _ _ e
-by-second kind.IncrementRation b c d e = no _ _ _ e
-by-second kind.Abort b c d e = no _ _ _ e
-by-second kind.Close b c d e = ap (λ (t : Bool). pick t (pick (eqb c 0) 3 2) 1) (and-true _ ∙ and-true _)
-by-second kind.Acknowledgment b c d e = ap (λ (t : Bool). pick t (pick (eqb c 0) 3 2) 1) (and-true _ ∙ and-true _)
-by-second kind.Data b c d e = no _ _ _ e
-
--- the place, by tests of the second byte alone and of the third
-module _ (a b c d : ℕ) (ha : a < 256) (hb : b < 256) (hc : c < 256) (hd : d < 256) (k : Kind) (e : kindOf a ≡ Known k)
-    (f : fixed (layout k) (a ∷ b ∷ c ∷ d ∷ []) ≡ false) where
-  tested : (t : Bool) → fixed (layout k) (a ∷ b ∷ 0 ∷ 0 ∷ []) ≡ t → pick t (pick (eqb c 0) 3 2) 1 ≡ firstWrong (layout k) (a ∷ b ∷ c ∷ d ∷ [])
-  tested t q =
-      ap (λ (u : Bool). pick u (pick (eqb c 0) 3 2) 1) (sym (fixed-clear a b 0 0 hb (omega arith) (omega arith) ha k k refl e ∙ q))
-      ∙ by-second k b c d (fixed-clear a b c d hb hc hd ha k k refl e ∙ f)
-      ∙ place-is a b c d hb hc hd ha k e f
-
-  pub wrong-second : fixed (layout k) (a ∷ b ∷ 0 ∷ 0 ∷ []) ≡ false → 1 ≡ firstWrong (layout k) (a ∷ b ∷ c ∷ d ∷ [])
-  wrong-second q = sym (no _ _ _ refl) ∙ tested false q
-
-  pub wrong-third : fixed (layout k) (a ∷ b ∷ 0 ∷ 0 ∷ []) ≡ true → (c ≡ 0 → ⊥) → 2 ≡ firstWrong (layout k) (a ∷ b ∷ c ∷ d ∷ [])
-  wrong-third q z = sym (yes _ _ _ refl ∙ no _ _ _ (ne-eqb _ _ z)) ∙ tested true q
-
-  pub wrong-fourth : fixed (layout k) (a ∷ b ∷ 0 ∷ 0 ∷ []) ≡ true → c ≡ 0 → 3 ≡ firstWrong (layout k) (a ∷ b ∷ c ∷ d ∷ [])
-  wrong-fourth q z = sym (yes _ _ _ refl ∙ yes _ _ _ (eq-eqb _ _ z)) ∙ tested true q
 
 -- ---- the items that a layout has
 
