@@ -44,6 +44,11 @@ pub row-close : stepWords (stepAt (senderOf true) (0x8C ∷ 6 ∷ 0 ∷ 0 ∷ []
 unfolding pick kindOf firstWrong readMessage parseHeader typed allowed messageAt stepAt
 row-close = refl
 
+-- an IncrementRation with the largest shift
+pub row-shift : stepWords (stepAt (senderOf false) (0x1E ∷ 6 ∷ 0 ∷ 1 ∷ []) 0) ≡ 0 ∷ 0 ∷ 4 ∷ 6 ∷ 7 ∷ 6 ∷ 1 ∷ []
+unfolding pick kindOf firstWrong readMessage parseHeader typed allowed messageAt stepAt
+row-shift = refl
+
 -- a partial Abort with a detail of 1 byte
 pub row-partial : stepWords (stepAt (senderOf true) (0x22 ∷ 6 ∷ 0 ∷ 1 ∷ 9 ∷ []) 0) ≡ 0 ∷ 0 ∷ 5 ∷ 7 ∷ 1 ∷ 6 ∷ 1 ∷ []
 unfolding pick kindOf firstWrong readMessage parseHeader typed allowed messageAt stepAt

@@ -1,6 +1,6 @@
 -- Each way through the checks of a header is what the definitions say of its four bytes.
 use mathlib.Core.Path.{_≡_, refl, ap, sym, _∙_}
-use mathlib.Core.Bool.{Bool, true, false, not, _&&_, true≢false}
+use mathlib.Core.Bool.{Bool, true, false, not, _&&_}
 use mathlib.Core.List.{List, [], _∷_}
 use Prim.Native.Nat.{ℕ, _*_, _+_, _/_, _%_, _<_, _≤_}
 use native.Mathlib.Omega.{arith}
@@ -9,6 +9,7 @@ use borrow.Author.Tests.{ltb-true, eq-eqb, ne-eqb, le-leb, lt-leb}
 use Rattle.laws.specs.Pick.{pick}
 use Rattle.laws.specs.Result.{fault, Result, ok, refused, violation}
 use Rattle.laws.proofs.Pick.{yes, no}
+use Rattle.laws.proofs.Tests.{not-true, not-false}
 use Rattle.wire.specs.declared.Role.{Role}
 use Rattle.wire.specs.declared.Kind.{Kind}
 use Rattle.wire.specs.declared.Kind.the-variants as kind
@@ -58,14 +59,6 @@ order-clear true {f} {c} place have m p q = yes _ _ _ refl ∙ order-taken true 
 order-clear false {f} {c} place have m p q = no _ _ _ refl ∙ order-sender false f c place have m p refl
 
 -- ---- the test of a session number, as the code has it
-
-not-true : (x : Bool) → not x ≡ true → x ≡ false
-not-true false q = refl
-not-true true q = absurd (true≢false (sym q))
-
-not-false : (x : Bool) → not x ≡ false → x ≡ true
-not-false true q = refl
-not-false false q = absurd (true≢false q)
 
 pub no-session : {x t : Bool} → x ≡ t → not x ≡ true → t ≡ false
 no-session {x} p q = sym p ∙ not-true x q
