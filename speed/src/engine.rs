@@ -1,4 +1,5 @@
-//! The engine's reader, as its archives export it: the only part of this program that is `unsafe`.
+//! The engine's reader and its CRC, as the archives export them: the only part of this program that
+//! is `unsafe`.
 //! Each call is in an archive of its own, so that the compiler sees one caller of the reader in
 //! each and inlines it there, as `#[inline(always)]` does in Rust.
 use crate::message::{Sender, Tally};
@@ -13,6 +14,7 @@ extern "C" {
         found: *mut [u64; WORDS],
     );
     fn jmux_read_all(capture: *const u8, length: usize, server: bool, found: *mut [u64; 5]);
+    fn jmux_crc32c(bytes: *const u8, length: usize) -> u32;
 }
 
 /// What is at a place of a capture.
@@ -38,4 +40,11 @@ pub fn read_all(capture: &[u8], from: Sender) -> Tally {
         messages,
         sum,
     }
+}
+
+/// The CRC-32C of the bytes.
+#[inline(always)]
+pub fn crc32c(bytes: &[u8]) -> u32 {
+    // The bytes are only read while the call runs.
+    unsafe { jmux_crc32c(bytes.as_ptr(), bytes.len()) }
 }

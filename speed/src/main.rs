@@ -1,7 +1,8 @@
 //! Reads captures with the engine's reader and with two of Rust, compares what they find, and times
-//! them.
+//! them; the same for CRC-32C.
 mod captures;
 mod compare;
+mod crc;
 mod engine;
 mod message;
 mod readers;
@@ -13,10 +14,18 @@ mod words;
 use std::process::ExitCode;
 
 const USAGE: &str = "\
-usage: speed compare                   the readers find the same, message by message
-       speed time                      a table of times and ratios
+usage: speed compare                   the readers find the same, message by message; so do the CRCs
+       speed time                      a table of times and ratios of the readers
+       speed crc                       a longer comparison of the CRCs, and their times and ratios
        speed captures                  the names of the captures, a line each, with their messages
        speed run READER CAPTURE TIMES  one reader over one capture, by its line from 0, this often";
+
+/// How many random slices the CRCs are compared on beside the readers.
+const SLICES: usize = 20_000;
+
+fn compare() -> Result<String, String> {
+    Ok(format!("{}\n{}", compare::all()?, crc::compare(SLICES)?))
+}
 
 fn captures() -> Result<String, String> {
     let mut lines = Vec::new();
@@ -43,8 +52,9 @@ fn main() -> ExitCode {
     let words: Vec<String> = std::env::args().skip(1).collect();
     let words: Vec<&str> = words.iter().map(String::as_str).collect();
     let told = match words[..] {
-        ["compare"] => compare::all(),
+        ["compare"] => compare(),
         ["time"] => times::table(),
+        ["crc"] => crc::table_of_times(),
         ["captures"] => captures(),
         ["run", reader, capture, often] => run(reader, capture, often),
         _ => Err(USAGE.to_string()),
