@@ -123,3 +123,41 @@ def good_ends():
 def cases():
     yield from bad_lines()
     yield from good_ends()
+
+
+# ---- the journal's scripts
+
+# Two lines, so that a bad line behind them is the third.
+REGION = b"region 1024\nstore 5 0\n"
+STORED = b"store ok serial 1\n"
+
+# The form of a line of the journal by its first word, as docs/JOURNAL.md has it.
+JOURNAL_FORMS = {
+    b"store": b"expected store ID KIND [STORES], ID and KIND at most 255, STORES at most 999",
+    b"repair": b"expected repair [STORES], STORES at most 999",
+    b"read": b"expected read alone",
+    b"list": b"expected list alone",
+    b"damage": b"expected damage PLACE BYTE, PLACE below LENGTH, BYTE at most 255",
+    b"block": b"expected block N, N of at most 9 digits",
+}
+JOURNAL_FIRST = b"expected region LENGTH, LENGTH at most 70000"
+
+BAD_JOURNAL_LINES = [
+    b"store", b"store 5", b"store 5 ", b"store 256 0", b"store 5 256", b"store 5 0 1000", b"store 5 0 1 1", b"store 05 0", b"store 5 0 ",
+    b"repair 1000", b"repair -1", b"repair 1 1", b"read 1", b"list 1", b"read ", b"damage 1024 0", b"damage 0 256", b"damage 0", b"damage",
+    b"damage 0 0 0", b"block", b"block 1 1", b"block 1000000000", b"block x", b"region 1024", b"state", b"Store 5 0", b" store 5 0",
+    b"store\t5 0", b"store 5 0\r", b"\0", b"a" * MEGABYTE,
+]
+BAD_REGIONS = [b"store 5 0", b"region", b"region ", b"region 70001", b"region 0512", b"region 512 1", b"Region 512", b"region 512\r", b"region -1"]
+
+
+def journal_cases():
+    """Scripts of the journal with a line that is not valid: each with the output, and what journal_play says on standard error."""
+    for line in BAD_JOURNAL_LINES:
+        form = JOURNAL_FORMS.get(line.split(b" ")[0], b"no call has this name")
+        yield REGION + line + b"\nread\n", STORED + b"script error at line 3\n", b"line 3: " + form + b"\n"
+    for line in BAD_REGIONS:
+        yield b"# A region.\n\n" + line + b"\nread\n", b"script error at line 3\n", b"line 3: " + JOURNAL_FIRST + b"\n"
+    yield b"", b"", b""
+    yield b"region 512", b"", b""
+    yield b"region 70000\nread", b"read refused 8\n", b""

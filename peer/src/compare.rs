@@ -51,12 +51,31 @@ pub fn first_difference(ours: &[u8], theirs: &[u8]) -> Option<Difference> {
     }
 }
 
-/// Tells whether the program's output on a script differs from ours, or the program fails.
-fn script_differs(program: &Program, script: &[u8]) -> bool {
-    let ours = play::play_bytes(script, None);
-    match program.run(script) {
-        Ok(theirs) => theirs.fault.is_some() || theirs.text != ours,
-        Err(_) => false,
+/// Two programs that play the same scripts: another one, and this one by a function.
+pub struct Pair<'a> {
+    pub program: &'a Program,
+    pub play: fn(&[u8]) -> Vec<u8>,
+}
+
+/// Writes a line on standard error now and then.
+pub struct Progress {
+    last: Instant,
+}
+
+impl Progress {
+    /// Begins to wait for the first line.
+    pub fn begin() -> Progress {
+        Progress {
+            last: Instant::now(),
+        }
+    }
+
+    /// Writes the line if one is due.
+    pub fn tell(&mut self, line: impl FnOnce() -> String) {
+        if self.last.elapsed() >= PROGRESS {
+            self.last = Instant::now();
+            eprintln!("{}", line());
+        }
     }
 }
 
@@ -64,8 +83,12 @@ fn script_differs(program: &Program, script: &[u8]) -> bool {
 pub fn compare<W: Write>(settings: &Settings, out: &mut W) -> Result<bool, String> {
     let mut cover = Cover::default();
     let mut differing = 0;
-    let mut last_progress = Instant::now();
+    let mut progress = Progress::begin();
     let begun = Instant::now();
+    let pair = Pair {
+        program: &settings.program,
+        play: |script| play::play_bytes(script, None),
+    };
     for seed in settings.seeds.clone() {
         let script = make::make(seed, settings.calls);
         let ours = play::play_bytes(&script, Some(&mut cover));
@@ -73,77 +96,88 @@ pub fn compare<W: Write>(settings: &Settings, out: &mut W) -> Result<bool, Strin
         let theirs = settings.program.run(&script)?;
         if theirs.fault.is_some() || theirs.text != ours {
             differing += 1;
-            show_difference(settings, seed, &script, &ours, &theirs, out).map_err(told)?;
+            let title = format!("Seed {seed}");
+            pair.show(&title, &script, &ours, &theirs, out)?;
         }
         if differing >= settings.differences {
             break;
         }
-        if last_progress.elapsed() >= PROGRESS {
-            last_progress = Instant::now();
-            let end = settings.seeds.end;
-            eprintln!(
-                "seed {seed} of those below {end}: {} calls, {differing} scripts differ",
-                cover.calls
-            );
-        }
+        progress.tell(|| {
+            let (end, calls) = (settings.seeds.end, cover.calls);
+            format!("seed {seed} of those below {end}: {calls} calls, {differing} scripts differ")
+        });
     }
     summary(settings, &cover, differing, begun.elapsed(), out).map_err(told)?;
     Ok(differing == 0)
 }
 
 /// Gives an error of output in plain words.
-fn told(error: io::Error) -> String {
+pub fn told(error: io::Error) -> String {
     format!("cannot write the report: {error}")
 }
 
-/// Prints a script that differs, shrunk, with the first differing line of both outputs.
-fn show_difference<W: Write>(
-    settings: &Settings,
-    seed: u64,
-    script: &[u8],
+impl Pair<'_> {
+    /// Tells whether the program's output on a script differs from ours, or the program fails.
+    fn differs(&self, script: &[u8]) -> bool {
+        let ours = (self.play)(script);
+        match self.program.run(script) {
+            Ok(theirs) => theirs.fault.is_some() || theirs.text != ours,
+            Err(_) => false,
+        }
+    }
+
+    /// Prints a script that differs, shrunk, with the first differing line of both outputs.
+    pub fn show<W: Write>(
+        &self,
+        title: &str,
+        script: &[u8],
+        ours: &[u8],
+        theirs: &Printed,
+        out: &mut W,
+    ) -> Result<(), String> {
+        show_whole(title, ours, theirs, out).map_err(told)?;
+        eprintln!("{title}: shrinking");
+        let short = shrink::shrink(script, &mut |script| self.differs(script));
+        self.show_short(&short, out).map_err(told)
+    }
+
+    /// Prints the shrunk script and what both programs print for it.
+    fn show_short<W: Write>(&self, short: &[u8], out: &mut W) -> io::Result<()> {
+        let count = short.split(|&byte| byte == b'\n').count() - 1;
+        writeln!(out, "Shrunk to {count} lines:")?;
+        writeln!(out, "---- script")?;
+        out.write_all(short)?;
+        writeln!(out, "---- end of script")?;
+        let ours = (self.play)(short);
+        match self.program.run(short) {
+            Ok(theirs) => show_first(&ours, &theirs, "First differing line of the output:", out)?,
+            Err(error) => writeln!(out, "{error}")?,
+        }
+        writeln!(out)
+    }
+}
+
+/// Prints how the outputs of a whole script differ.
+fn show_whole<W: Write>(title: &str, ours: &[u8], theirs: &Printed, out: &mut W) -> io::Result<()> {
+    writeln!(out, "{title}: the outputs differ.")?;
+    show_first(ours, theirs, "In the whole script, at line", out)
+}
+
+/// Prints how the program failed, and the first differing line under a heading.
+fn show_first<W: Write>(
     ours: &[u8],
     theirs: &Printed,
+    heading: &str,
     out: &mut W,
 ) -> io::Result<()> {
-    writeln!(out, "Seed {seed}: the outputs differ.")?;
     if let Some(fault) = &theirs.fault {
         writeln!(out, "The program did not end well: {fault}.")?;
     }
     if let Some(difference) = first_difference(ours, &theirs.text) {
-        writeln!(out, "In the whole script, at line {}:", difference.line)?;
+        writeln!(out, "{heading} {}", difference.line)?;
         show_lines(&difference, out)?;
     }
-    eprintln!("seed {seed} differs, shrinking");
-    let program = &settings.program;
-    let short = shrink::shrink(script, &mut |script| script_differs(program, script));
-    show_short(program, &short, out)
-}
-
-/// Prints the shrunk script and what both programs print for it.
-fn show_short<W: Write>(program: &Program, short: &[u8], out: &mut W) -> io::Result<()> {
-    let count = short.split(|&byte| byte == b'\n').count() - 1;
-    writeln!(out, "Shrunk to {count} lines:")?;
-    writeln!(out, "---- script")?;
-    out.write_all(short)?;
-    writeln!(out, "---- end of script")?;
-    let ours = play::play_bytes(short, None);
-    match program.run(short) {
-        Ok(theirs) => {
-            if let Some(fault) = theirs.fault {
-                writeln!(out, "The program did not end well: {fault}.")?;
-            }
-            if let Some(difference) = first_difference(&ours, &theirs.text) {
-                writeln!(
-                    out,
-                    "First differing line of the output: {}",
-                    difference.line
-                )?;
-                show_lines(&difference, out)?;
-            }
-        }
-        Err(error) => writeln!(out, "{error}")?,
-    }
-    writeln!(out)
+    Ok(())
 }
 
 /// Prints the two forms of a line.
@@ -185,10 +219,15 @@ fn summary<W: Write>(
         cover.looks,
         time.as_secs_f64()
     )?;
+    writeln!(out, "{}", result(differing))
+}
+
+/// Gives the last line of a report.
+pub fn result(differing: u64) -> String {
     match differing {
-        0 => writeln!(out, "Result: no difference."),
-        1 => writeln!(out, "Result: 1 script differs."),
-        count => writeln!(out, "Result: {count} scripts differ."),
+        0 => "Result: no difference.".to_string(),
+        1 => "Result: 1 script differs.".to_string(),
+        count => format!("Result: {count} scripts differ."),
     }
 }
 

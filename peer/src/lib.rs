@@ -1,14 +1,17 @@
 //! An independent second implementation of one end of the Jini ERI multiplexing protocol.
 //!
-//! It rests on four texts alone: those that READINGS.md calls Scope, Changes and Published, and the script
-//! format (docs/SCRIPTS.md). Its points of doubt, and the readings taken, are in READINGS.md.
+//! It rests on five texts alone: those that READINGS.md calls Scope, Changes and Published, and the formats of
+//! scripts for a connection (docs/SCRIPTS.md) and for a journal. Its points of doubt, and the readings taken,
+//! are in READINGS.md.
 
 pub mod clock;
 pub mod compare;
 pub mod corners;
 pub mod cover;
+pub mod crc;
 pub mod engine;
 pub mod far;
+pub mod journal;
 pub mod make;
 pub mod noise;
 pub mod pick;

@@ -1,11 +1,12 @@
 //! The command line of `peer`.
 
 use peer::compare::{self, Settings};
+use peer::journal::{self, cuts};
 use peer::make;
 use peer::play;
 use peer::runner::Program;
 use std::io::{self, BufReader, Write};
-use std::ops::Range;
+use std::ops::{Range, RangeInclusive};
 use std::process::ExitCode;
 use std::time::Duration;
 
@@ -33,11 +34,31 @@ peer cover [--seeds A..B] [--calls M] [--full]
     --full adds each call and message at each pair of sides. Exit status 1 if something that a
     script can reach was not reached.
 
+peer journal < SCRIPT
+    Plays the journal's script on standard input and prints one line for each call. A line that is
+    no call ends the run with `script error at line N`; the exit status is 0.
+
+peer journal-make --seed N
+    Prints the random journal's script of seed N. The same N always gives the same script.
+
+peer journal-cuts [--cut J] [--history H]
+    Prints short histories whose last store or repair is cut after J byte stores, 0 to 512, or
+    after each of these numbers if J is left out; history H alone, or all of them one by one. Each
+    begins with a line that says what it is.
+
+peer journal-compare --program PATH [--seeds A..B] [--cuts] [--differences K] [--timeout S]
+    Runs the program at PATH on the journal's scripts of the seeds, with --cuts on all histories
+    of journal-cuts, and compares its lines with those of peer, as compare does. Exit status 1 on
+    a difference, or if 1,024 seeds or more do not reach all that a script can reach; else 0.
+
 peer --help
     Prints this.
 
 A..=B stands for the seeds from A to B, both included. The exit status is 2 for wrong arguments.
 ";
+
+const COMMANDS: &str = "\
+play, make, compare, cover, journal, journal-make, journal-cuts and journal-compare";
 
 /// The seeds of `cover` where the command names none.
 const USUAL_SEEDS: Range<u64> = 1..1025;
@@ -63,7 +84,7 @@ fn main() -> ExitCode {
 /// Runs the command that the arguments name; tells whether all went well.
 fn run(arguments: &[String]) -> Result<bool, String> {
     let Some((command, rest)) = arguments.split_first() else {
-        return Err("no command; it is play, make, compare or cover".to_string());
+        return Err(format!("no command; it is one of {COMMANDS}"));
     };
     let help = |word: &String| matches!(word.as_str(), "--help" | "-h" | "help");
     if help(command) || rest.iter().any(|word| word == "--help" || word == "-h") {
@@ -74,8 +95,12 @@ fn run(arguments: &[String]) -> Result<bool, String> {
         "make" => run_make(rest),
         "compare" => run_compare(rest),
         "cover" => run_cover(rest),
+        "journal" => run_journal(rest),
+        "journal-make" => run_journal_make(rest),
+        "journal-cuts" => run_journal_cuts(rest),
+        "journal-compare" => run_journal_compare(rest),
         other => Err(format!(
-            "there is no command `{other}`; it is play, make, compare or cover"
+            "there is no command `{other}`; it is one of {COMMANDS}"
         )),
     }
 }
@@ -117,16 +142,12 @@ fn run_compare(arguments: &[String]) -> Result<bool, String> {
         "--full",
     ];
     let options = Options::read(arguments, &known)?;
-    let path = options
-        .value("--program")
-        .ok_or("compare needs --program PATH")?;
     let seeds = options.seeds()?.ok_or("compare needs --seeds A..B")?;
-    let timeout = options.number("--timeout")?.unwrap_or(USUAL_TIMEOUT);
     let settings = Settings {
-        program: Program::new(path, Duration::from_secs(timeout.max(1)))?,
+        program: options.program()?,
         seeds,
         calls: options.calls()?,
-        differences: options.number("--differences")?.unwrap_or(1).max(1),
+        differences: options.differences()?,
         full: options.has("--full"),
     };
     compare::compare(&settings, &mut io::stdout().lock())
@@ -138,6 +159,56 @@ fn run_cover(arguments: &[String]) -> Result<bool, String> {
     let cover = compare::cover(seeds, options.calls()?);
     print(cover.report(options.has("--full")).as_bytes())?;
     Ok(cover.missing().is_empty())
+}
+
+fn run_journal(arguments: &[String]) -> Result<bool, String> {
+    Options::read(arguments, &[])?;
+    let input = BufReader::with_capacity(1 << 16, io::stdin().lock());
+    finish(journal::play::play(input, io::stdout().lock(), None))
+}
+
+fn run_journal_make(arguments: &[String]) -> Result<bool, String> {
+    let options = Options::read(arguments, &["--seed"])?;
+    let seed = options.number("--seed")?;
+    print(&journal::make::make(
+        seed.ok_or("journal-make needs --seed N")?,
+    ))
+}
+
+fn run_journal_cuts(arguments: &[String]) -> Result<bool, String> {
+    let options = Options::read(arguments, &["--cut", "--history"])?;
+    let after = options.part("--cut", 0, u64::from(cuts::LARGEST_CUT))?;
+    let numbers = options.part("--history", 1, cuts::HISTORIES.len() as u64)?;
+    let mut text = Vec::new();
+    for cut in after {
+        for number in numbers.clone() {
+            let history = &cuts::HISTORIES[number as usize - 1];
+            text.extend(history.script(cut as u32));
+        }
+    }
+    print(&text)
+}
+
+fn run_journal_compare(arguments: &[String]) -> Result<bool, String> {
+    let known = [
+        "--program",
+        "--seeds",
+        "--cuts",
+        "--differences",
+        "--timeout",
+    ];
+    let options = Options::read(arguments, &known)?;
+    let seeds = options.seeds()?;
+    if seeds.is_none() && !options.has("--cuts") {
+        return Err("journal-compare needs --seeds A..B or --cuts".to_string());
+    }
+    let settings = journal::compare::Settings {
+        program: options.program()?,
+        seeds: seeds.unwrap_or(0..0),
+        cuts: options.has("--cuts"),
+        differences: options.differences()?,
+    };
+    journal::compare::compare(&settings, &mut io::stdout().lock())
 }
 
 /// The options of a command, each with its value.
@@ -158,7 +229,7 @@ impl Options {
                 return Err(format!("`{name}` is given twice"));
             }
             let value = match name.as_str() {
-                "--full" => String::new(),
+                "--full" | "--cuts" => String::new(),
                 _ => rest
                     .next()
                     .ok_or_else(|| format!("`{name}` needs a value"))?
@@ -182,6 +253,29 @@ impl Options {
         self.value(name)
             .map(|value| read_number(name, value))
             .transpose()
+    }
+
+    /// Gives the program to compare with.
+    fn program(&self) -> Result<Program, String> {
+        let path = self
+            .value("--program")
+            .ok_or("`--program PATH` is needed")?;
+        let timeout = self.number("--timeout")?.unwrap_or(USUAL_TIMEOUT);
+        Program::new(path, Duration::from_secs(timeout.max(1)))
+    }
+
+    /// Gives the number of differing scripts after which a run stops.
+    fn differences(&self) -> Result<u64, String> {
+        Ok(self.number("--differences")?.unwrap_or(1).max(1))
+    }
+
+    /// Gives the one number that an option names, or all from `first` to `last`.
+    fn part(&self, name: &str, first: u64, last: u64) -> Result<RangeInclusive<u64>, String> {
+        match self.number(name)? {
+            None => Ok(first..=last),
+            Some(one) if (first..=last).contains(&one) => Ok(one..=one),
+            Some(_) => Err(format!("`{name}` is {first} to {last}")),
+        }
     }
 
     /// Gives the number of calls, 1 or more.

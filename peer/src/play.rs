@@ -176,24 +176,41 @@ const GATHERED: usize = 1 << 16;
 /// Plays a whole script from `input` to `output`; counts what it reaches in `cover`.
 pub fn play<R: BufRead, W: Write>(
     input: R,
-    mut output: W,
+    output: W,
     mut cover: Option<&mut Cover>,
 ) -> io::Result<()> {
-    let mut lines = Lines::new(input);
     let mut player: Option<Player> = None;
+    let good = play_lines(input, output, &mut |line, text| {
+        play_line(&mut player, line, text, &mut cover)
+    })?;
+    if let (false, Some(cover)) = (good, cover) {
+        cover.script_error();
+    }
+    Ok(())
+}
+
+/// Plays lines one by one by `play_line`, which adds what a line prints and tells whether it is one of the language.
+///
+/// The first line that is not ends the run with `script error at line N`; gives whether there was none.
+pub(crate) fn play_lines<R: BufRead, W: Write>(
+    input: R,
+    mut output: W,
+    play_line: &mut dyn FnMut(&[u8], &mut Vec<u8>) -> bool,
+) -> io::Result<bool> {
+    let mut lines = Lines::new(input);
     let mut text = Vec::new();
-    while let Some(line) = lines.next_line()? {
-        let good = match line {
+    let mut good = true;
+    while good {
+        let Some(line) = lines.next_line()? else {
+            break;
+        };
+        good = match line {
             Line::Skipped => true,
             Line::TooLong => false,
-            Line::Text(line) => play_line(&mut player, line, &mut text, &mut cover),
+            Line::Text(line) => play_line(line, &mut text),
         };
         if !good {
             writeln!(text, "script error at line {}", lines.number)?;
-            if let Some(cover) = cover {
-                cover.script_error();
-            }
-            break;
         }
         if text.len() >= GATHERED {
             output.write_all(&text)?;
@@ -201,7 +218,8 @@ pub fn play<R: BufRead, W: Write>(
         }
     }
     output.write_all(&text)?;
-    output.flush()
+    output.flush()?;
+    Ok(good)
 }
 
 /// Plays one line that is not skipped; tells whether it was one of the script language.

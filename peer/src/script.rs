@@ -6,6 +6,7 @@ mod read;
 mod tests;
 
 pub use lines::{Line, Lines};
+pub(crate) use read::Words;
 pub use read::{read_call, read_first};
 
 use crate::wire::Role;
@@ -25,7 +26,7 @@ pub const LARGEST_RECEIVE: usize = 66_000;
 /// The longest queue that a script may name.
 pub const LARGEST_QUEUE: u32 = 70_000;
 
-const LARGEST_ID: u32 = 255;
+const LARGEST_BYTE: u32 = 255;
 const LARGEST_DIGITS: usize = 9;
 
 /// No line of a call is longer than this: `receive`, its bytes, its room.
@@ -173,7 +174,7 @@ impl First {
 }
 
 /// Adds a space and a number.
-fn add_number(line: &mut Vec<u8>, number: u32) {
+pub(crate) fn add_number(line: &mut Vec<u8>, number: u32) {
     line.push(b' ');
     line.extend_from_slice(number.to_string().as_bytes());
 }

@@ -56,6 +56,6 @@ bitsAsNumber (a ∷ p) = digit a + 2 * bitsAsNumber p
 unfoldable pub remainder : Polynomial → Polynomial
 remainder m = divided (length m) (complemented 32 (m ++ replicate 32 false))
 
--- the coefficients of R(x) are complemented, and that of x^31 is the lowest bit
+-- the coefficients of R(x) are complemented, and that of x^31 is the lowest bit: as a number, e3069283 hex for the text 123456789
 unfoldable pub crcOf : List ℕ → ℕ
 crcOf s = bitsAsNumber (complemented 32 (remainder (messageBits s)))

@@ -28,7 +28,7 @@ append-first : (a b : List Event) → a ++ b ≡ [] → a ≡ []
 append-first [] b e = refl
 append-first (x ∷ a) b e = absurd (let z : _≡_ {A = ℕ} 0 1 = cc in omega arith)
 
-abbrev outcomeAt : Connection → ℕ → Fate
+abbrev pub outcomeAt : Connection → ℕ → Fate
 outcomeAt c n = fateOf (at c n .outcome)
 
 module _ (s : State) (o : Ok (setupOf (s .connection)) s) (k : Call) where
@@ -75,7 +75,7 @@ module _ (s : State) (o : Ok (setupOf (s .connection)) s) (k : Call) where
   fate-by (accept e) g n h = fate-taken e g n h (e .ending) refl
 
 module _ (setup : Setup) (n : ℕ) (h : n < 128) where
-  fate-next : (s : State) (k : Call) → Ok setup s → outcomeAt (next s k .connection) n ≡ fateByEntry n (accountOf s n) (outcomeAt (s .connection) n) (out s k)
+  pub fate-next : (s : State) (k : Call) → Ok setup s → outcomeAt (next s k .connection) n ≡ fateByEntry n (accountOf s n) (outcomeAt (s .connection) n) (out s k)
   fate-next s k o = rw (next-is, out-is) (fate-by s (own-ok setup s o) k (decide (s .connection) (s .queue) k) (decide-good s (own-ok setup s o) k) n h)
 
   fate-run : (s : State) (ks : List Call) → Ok setup s → (z : Fated) → z .account ≡ accountOf s n → z .fate ≡ outcomeAt (s .connection) n

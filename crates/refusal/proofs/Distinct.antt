@@ -29,6 +29,8 @@ refusals =
     ∷ refusal.BadValue
     ∷ refusal.PingOutstanding
     ∷ refusal.IllFormed
+    ∷ refusal.NotExchanged
+    ∷ refusal.RegionFull
     ∷ []
 
 given-back : (r : Refusal) → getD refusals (refusalNumber r) refusal.NotExchanged ≡ r
@@ -46,6 +48,7 @@ given-back refusal.Incomplete = refl
 given-back refusal.BadValue = refl
 given-back refusal.PingOutstanding = refl
 given-back refusal.IllFormed = refl
+given-back refusal.RegionFull = refl
 
 -- the refusal that a number stands for
 pub refusalOf : ℕ → Refusal

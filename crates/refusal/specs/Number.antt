@@ -21,6 +21,7 @@ refusalNumber refusal.Incomplete = 10
 refusalNumber refusal.BadValue = 12
 refusalNumber refusal.PingOutstanding = 13
 refusalNumber refusal.IllFormed = 14
+refusalNumber refusal.RegionFull = 16
 
 abbrev pub violationNumber : Violation → ℕ
 violationNumber violation.UnknownType = 20

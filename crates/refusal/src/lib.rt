@@ -18,7 +18,7 @@ pub enum Refusal {
     SlotFull,
     // The ration that the grant adds to is endless, or the sum is above the largest.
     GrantTooLarge,
-    // The room is too small, or the queue has the wrong length.
+    // The room is too small, or the queue or the journal's region has the wrong length.
     WrongRoom,
     // No session is ready.
     NothingReady,
@@ -30,6 +30,8 @@ pub enum Refusal {
     PingOutstanding,
     // The state is not well formed, the message is one that the reader would not give back, or the place is past the end.
     IllFormed,
+    // No block of the journal's region is bad, so none is free for an entry.
+    RegionFull,
 }
 
 // How the bytes received break the protocol. Such a receive ends the connection.
@@ -78,6 +80,7 @@ impl Refusal {
             Refusal::BadValue => 12,
             Refusal::PingOutstanding => 13,
             Refusal::IllFormed => 14,
+            Refusal::RegionFull => 16,
         }
     }
 }

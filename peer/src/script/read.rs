@@ -1,23 +1,23 @@
 //! Reads the lines of a script: words, numbers, bytes and calls.
 
 use super::{
-    Call, First, Room, LARGEST_DIGITS, LARGEST_ID, LARGEST_PUT, LARGEST_QUEUE, LARGEST_RECEIVE,
+    Call, First, Room, LARGEST_BYTE, LARGEST_DIGITS, LARGEST_PUT, LARGEST_QUEUE, LARGEST_RECEIVE,
     LARGEST_ROOM,
 };
 use crate::wire::Role;
 
 /// The words of one line; between two spaces there is an empty word, which fits nowhere.
-struct Words<'a> {
+pub(crate) struct Words<'a> {
     rest: Option<&'a [u8]>,
 }
 
 impl<'a> Words<'a> {
-    fn new(line: &'a [u8]) -> Words<'a> {
+    pub(crate) fn new(line: &'a [u8]) -> Words<'a> {
         Words { rest: Some(line) }
     }
 
     /// Gives the next word, or nothing at the end of the line.
-    fn next(&mut self) -> Option<&'a [u8]> {
+    pub(crate) fn next(&mut self) -> Option<&'a [u8]> {
         let rest = self.rest?;
         match rest.iter().position(|&byte| byte == b' ') {
             Some(space) => {
@@ -32,13 +32,21 @@ impl<'a> Words<'a> {
     }
 
     /// Gives the next word as a number up to `largest`.
-    fn number(&mut self, largest: u32) -> Option<u32> {
+    pub(crate) fn number(&mut self, largest: u32) -> Option<u32> {
         read_number(self.next()?, largest)
     }
 
-    /// Gives the next word as a session number as scripts name them.
-    fn id(&mut self) -> Option<u8> {
-        self.number(LARGEST_ID)?.try_into().ok()
+    /// Gives a number up to `largest` if a word is left, and fails if that word is not one.
+    pub(crate) fn optional(&mut self, largest: u32) -> Option<Option<u32>> {
+        if self.rest.is_none() {
+            return Some(None);
+        }
+        self.number(largest).map(Some)
+    }
+
+    /// Gives the next word as a number from 0 to 255, as scripts name sessions.
+    pub(crate) fn byte(&mut self) -> Option<u8> {
+        self.number(LARGEST_BYTE)?.try_into().ok()
     }
 
     /// Gives the next word as a 16-bit number.
@@ -53,14 +61,11 @@ impl<'a> Words<'a> {
 
     /// Gives the room if a word is left, and fails if that word is not a room.
     fn room(&mut self) -> Option<Room> {
-        if self.rest.is_none() {
-            return Some(None);
-        }
-        self.number(LARGEST_ROOM).map(Some)
+        self.optional(LARGEST_ROOM)
     }
 
     /// Gives the value if no word is left.
-    fn end<T>(&self, value: T) -> Option<T> {
+    pub(crate) fn end<T>(&self, value: T) -> Option<T> {
         match self.rest {
             None => Some(value),
             Some(_) => None,
@@ -158,7 +163,7 @@ pub fn read_call(line: &[u8]) -> Option<Call> {
 
 /// Reads the words behind the first word of a call that names a session number.
 fn read_session_call(word: &[u8], words: &mut Words) -> Option<Call> {
-    let id = words.id()?;
+    let id = words.byte()?;
     let call = match word {
         b"open" => Call::Open { id },
         b"put" => Call::Put {

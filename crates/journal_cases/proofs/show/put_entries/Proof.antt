@@ -1,0 +1,19 @@
+-- `put_entries` is safe and ends: the index stays below the length of the arrays, and what is left of them falls.
+use Prim.Native.Nat.{_≤_, _-_}
+use borrow.Author.Needs.{needs}
+use Rattle.journal_cases.proofs.show.put_entries.Statement.{statement}
+use Rattle.journal_cases.proofs.show.put_entries.Tie as tie
+
+abbrev Inv-loop : tie.InvT-loop
+Inv-loop count numbers kinds k₀ k = k ≤ 128
+
+abbrev μ-loop : tie.MeasureT-loop
+μ-loop count numbers kinds k₀ k = 128 - k
+
+pub put-entries-spec : {M : Type 1} → statement M
+put-entries-spec =
+    tie.close
+    (tie.spec
+    Inv-loop μ-loop (λ c. search needs) (λ c κs. search needs) (λ c. search needs) (λ c. search needs)
+    (λ c. search needs) (λ c. search needs) (λ c κs. search needs) (λ c. search needs) (λ c. search needs)
+    (λ c. search needs) (λ c. search needs) (λ c. search needs))

@@ -1,0 +1,2 @@
+-- What the answer of a keep means.
+pub mod Answers

@@ -1,0 +1,2 @@
+-- The laws of a search.
+pub mod Found

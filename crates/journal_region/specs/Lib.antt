@@ -1,0 +1,2 @@
+-- What a search of a region finds.
+pub mod Search

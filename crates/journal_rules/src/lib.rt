@@ -1,0 +1,1 @@
+// No code: the journal's blocks, regions, answers, histories and claims.

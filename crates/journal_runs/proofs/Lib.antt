@@ -1,0 +1,2 @@
+-- Runs of a program that stores what is due.
+pub mod Reopened

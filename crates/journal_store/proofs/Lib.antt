@@ -1,0 +1,2 @@
+-- The laws of a store and a repair.
+pub mod Calls

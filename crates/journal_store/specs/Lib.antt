@@ -1,0 +1,2 @@
+-- What the answers of a store and a repair mean.
+pub mod Answers
