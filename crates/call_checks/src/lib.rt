@@ -1,4 +1,6 @@
 // What the calls share: their checks in order, their results, and the step of one session in a call that writes.
+#![tactic(auto)]
+
 mod gates;
 mod results;
 mod stepping;

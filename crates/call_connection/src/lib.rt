@@ -1,4 +1,6 @@
 // The calls on the connection as a whole: start, ping, shutdown and lost line.
+#![tactic(auto)]
+
 mod ending;
 mod starting;
 

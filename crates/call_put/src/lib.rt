@@ -1,4 +1,6 @@
 // Put: bytes wait in the queue until turns send them.
+#![tactic(auto)]
+
 ghost use Rattle.std.specs.Prelude.{◌≡◌};
 ghost use Rattle.protocol.specs.Plan.{take};
 ghost use Rattle.protocol.specs.Judge.{setting_session, done as judge_done};

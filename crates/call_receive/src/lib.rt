@@ -1,4 +1,6 @@
 // The receive call: it takes one whole connection header or message, and writes the reply.
+#![tactic(auto)]
+
 mod readings;
 mod replies;
 

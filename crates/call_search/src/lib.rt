@@ -1,4 +1,6 @@
 // The search of a turn, by halves: the nearest flag that is set after the number served last.
+#![tactic(auto)]
+
 ghost use Rattle.std.specs.Prelude.{◌≡◌, ◌+◌, ◌≤◌};
 ghost use Rattle.laws.specs.Circle.{following as circle_following};
 ghost use Rattle.call_search.specs.Flags.{is_set, first_set, nearest_set};

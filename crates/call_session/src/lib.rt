@@ -1,4 +1,6 @@
 // The calls on one session that use no queue: open, finish, grant, abort and close.
+#![tactic(auto)]
+
 mod silent;
 mod stepping;
 mod writing;

@@ -1,4 +1,6 @@
 // The queue: what put and turn do to the slot that they serve, and to nothing else.
+#![tactic(auto)]
+
 mod slot;
 
 ghost use Rattle.std.specs.Prelude.{◌≡◌, ◌&&◌, ◌*◌, eqb, ltb, leb, length};

@@ -1,4 +1,6 @@
 // Turn: the first ready session after the one served last sends a Data message.
+#![tactic(auto)]
+
 mod flags;
 mod serving;
 

@@ -3,6 +3,8 @@
 // The argument `read` names the loop; without an argument it runs too. It prints how many messages were read, and at the end the
 // sum of the capture's bytes, so that the compiler keeps what was written there. The output is the same in each run; a clock
 // outside it measures the time.
+#![tactic(auto)]
+
 use capture_rules::Next;
 use capture_step::next_at;
 use libc::{STDERR_FILENO, STDOUT_FILENO};

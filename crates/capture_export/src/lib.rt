@@ -1,4 +1,6 @@
 // What the capture reader finds at a place, in words, for programs in C and Rust.
+#![tactic(auto)]
+
 mod messages;
 
 ghost use Rattle.std.specs.Prelude.{◌≡◌, ◌∷◌, []};

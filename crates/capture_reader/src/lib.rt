@@ -1,4 +1,6 @@
 // The reader of captures, which keeps a capture's bytes and its own place in them.
+#![tactic(auto)]
+
 ghost use Rattle.std.specs.Prelude.{◌≡◌};
 ghost use Rattle.capture_rules.specs.Place.{step_at, next_as, step_as};
 ghost use Rattle.capture_reader.specs.Capture.{first_place, reader_at_first, advanced};

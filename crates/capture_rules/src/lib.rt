@@ -1,4 +1,6 @@
 // What may be at a place of a capture, and the place to read on from.
+#![tactic(auto)]
+
 use refusal::{Fault, Refusal};
 use wire::Message;
 

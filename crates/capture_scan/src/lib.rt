@@ -1,4 +1,6 @@
 // All messages of a capture, counted and summed, for programs in C and Rust.
+#![tactic(auto)]
+
 ghost use Rattle.std.specs.Prelude.{◌≡◌, ◌≤◌};
 ghost use Rattle.laws.specs.Result.{fault, violation};
 ghost use Rattle.capture_rules.specs.Place.{message_at};

@@ -1,4 +1,6 @@
 // The message at a place of a capture, and the place to read on from.
+#![tactic(auto)]
+
 ghost use Rattle.std.specs.Prelude.{◌≡◌, ◌+◌, ◌<◌, ◌^◌};
 ghost use Rattle.laws.specs.Result.{refused};
 ghost use Rattle.wire_read.specs.Answer.{read_as};

@@ -1,4 +1,6 @@
 // Runs the ping clock on case 7 and at the ends of each range, and writes a line for each answer.
+#![tactic(auto)]
+
 use clock_limit::{Limit, Setting, limit_of};
 use clock_sample::{Clock, SampleAnswer};
 use libc::STDOUT_FILENO;

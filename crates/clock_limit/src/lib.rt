@@ -1,4 +1,6 @@
 // The limit for a ping: fixed, or measured by a ping clock and held between a floor and a ceiling.
+#![tactic(auto)]
+
 ghost use Rattle.std.specs.Prelude.{◌≡◌};
 ghost use Rattle.clock_limit.specs.Limit.{good_setting, measured, limit_under, limit_rule, limit_result};
 

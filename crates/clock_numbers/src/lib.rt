@@ -1,4 +1,6 @@
 // Numbers of binary64: whether one is in a range, the larger and the smaller of two, the distance of two, and one held between two.
+#![tactic(auto)]
+
 ghost use Rattle.std.specs.Prelude.{◌≡◌, ◌&&◌};
 ghost use Rattle.std.specs.Float.Ieee.{le};
 ghost use Rattle.clock_numbers.specs.Arithmetic.{larger, smaller, distance, held};

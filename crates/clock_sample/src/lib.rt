@@ -1,4 +1,6 @@
 // The ping clock: a smoothed round-trip time and its deviation, by the arithmetic of RFC 6298.
+#![tactic(auto)]
+
 mod sampler;
 
 ghost use Rattle.std.specs.Prelude.{◌≡◌};

@@ -1,4 +1,6 @@
 // One end of a connection as a whole: its role, its starting rations, its table of sessions, and how it ends.
+#![tactic(auto)]
+
 mod ending;
 mod stages;
 mod table;

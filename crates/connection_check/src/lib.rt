@@ -1,4 +1,6 @@
 // Whether a connection is well formed: a test of each of its 128 sessions.
+#![tactic(auto)]
+
 ghost use Rattle.std.specs.Prelude.{◌≡◌};
 ghost use Rattle.wire.specs.Message.{only_if};
 ghost use Rattle.protocol.specs.Connection.{placed as connection_placed, session_formed, all_formed, well_formed};

@@ -1,4 +1,6 @@
 // The decision of a receive, before its reply is written: what a message does to the connection, and which bytes it takes.
+#![tactic(auto)]
+
 mod extents;
 mod judging;
 mod verdicts;

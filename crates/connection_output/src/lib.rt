@@ -1,4 +1,6 @@
 // What one end writes for its own calls and replies, and how it is written at the front of a lent room.
+#![tactic(auto)]
+
 ghost use Rattle.std.specs.Prelude.{◌≡◌, [], map, take};
 ghost use Rattle.laws.specs.Room.{at_front};
 ghost use Rattle.protocol.specs.Message.{numbered};

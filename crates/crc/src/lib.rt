@@ -1,4 +1,6 @@
 // CRC-32C of a slice of bytes, by a table of 256 entries.
+#![tactic(auto)]
+
 mod table;
 
 ghost use Rattle.std.specs.Prelude.{◌≡◌};

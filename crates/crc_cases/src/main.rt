@@ -1,4 +1,6 @@
 // Runs the CRC on the published values and on a few lengths more, and writes a line for each.
+#![tactic(auto)]
+
 use crc::crc32c;
 use libc::STDOUT_FILENO;
 

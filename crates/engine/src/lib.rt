@@ -1,4 +1,6 @@
 // The engine for a user: the types that a user names, and the twelve calls.
+#![tactic(auto)]
+
 pub use call_connection::{lost_line, ping, shutdown, start};
 pub use call_put::put;
 pub use call_receive::receive;

@@ -5,6 +5,8 @@
 // were. A line is one call with what it answers, writes and changes. The first line of output is the sizes of slot and queue.
 //
 // The expected output, the file stdout, is made by hand from docs/PROTOCOL.md, and none of it is copied from a run.
+#![tactic(auto)]
+
 mod call;
 mod codes;
 mod compare;

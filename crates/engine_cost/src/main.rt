@@ -3,6 +3,8 @@
 // The argument names one of the loops; without an argument all run. Each prints how many of its calls were taken. At the end
 // the bytes left in queue and room are added up, so that the compiler keeps what the calls wrote there. The output is the
 // same in each run; a clock outside it measures the time.
+#![tactic(auto)]
+
 mod rounds;
 
 use engine::QUEUE_SIZE;

@@ -2,6 +2,8 @@
 //
 // A client makes one request: it opens session 5, sends "abc" and eof, and ends when it knows the outcome. A server answers each
 // request with "ok" and closes the session. Both tell on standard error what they receive. docs/API.md explains the loop.
+#![tactic(auto)]
+
 mod calls;
 mod input;
 mod tell;

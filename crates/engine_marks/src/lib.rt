@@ -1,4 +1,6 @@
 // The marks of a room: a byte that stays where no call wrote.
+#![tactic(auto)]
+
 ghost use Rattle.std.specs.Prelude.{◌≡◌, length, drop, replicate};
 ghost use Rattle.engine_marks.specs.Marks.{all_marks};
 

@@ -1,1 +1,2 @@
 // No code: logs of calls, what they tell, and the claims over every one of them.
+#![tactic(auto)]

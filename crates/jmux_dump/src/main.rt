@@ -3,6 +3,8 @@
 // It is tested on a capture with each type of message that a client sends, against lines that are made by hand: each message
 // is looked up in the published tables, its place is the sum of the lengths before it, and none of the lines is copied from
 // a run.
+#![tactic(auto)]
+
 use capture_reader::{FIRST_PLACE, read_at, read_first};
 use capture_rules::{Next, Step};
 use libc::{STDERR_FILENO, STDIN_FILENO, STDOUT_FILENO};

@@ -1,4 +1,6 @@
 // The block of an entry, byte by byte, and the test of one.
+#![tactic(auto)]
+
 ghost use Rattle.std.specs.Prelude.{◌≡◌};
 ghost use Rattle.journal_rules.specs.Block.{block_of, journal_entry};
 ghost use Rattle.journal_rules.specs.Region.{good};

@@ -1,6 +1,8 @@
 // Plays a client's calls with a keep after each, case by case, and writes a line for each call and what the journal holds then.
 //
 // The expected output, the file stdout, is what expected.py prints, a model of the rules that shares nothing with this program.
+#![tactic(auto)]
+
 mod client;
 mod show;
 

@@ -1,4 +1,6 @@
 // What a program stores in the journal after each call of the engine, before it sends what the call wrote.
+#![tactic(auto)]
+
 mod fates;
 mod storing;
 

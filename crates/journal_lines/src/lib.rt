@@ -1,4 +1,6 @@
 // The script of a journal: what a line asks.
+#![tactic(auto)]
+
 mod blocks;
 mod keywords;
 mod lines;

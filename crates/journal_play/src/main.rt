@@ -2,6 +2,8 @@
 //
 // The script is on standard input, and the lines go to standard output; the reason of a script error goes to standard error. It is
 // tested on a start, a store that is cut and a repair, against lines that are made by hand from the rules; scripts/journal/ has more.
+#![tactic(auto)]
+
 mod input;
 mod play;
 mod reason;

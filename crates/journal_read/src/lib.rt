@@ -1,4 +1,6 @@
 // The calls that read a region: its entries, and the starts that are not to be retried.
+#![tactic(auto)]
+
 ghost use Rattle.std.specs.Prelude.{◌≡◌, true, ◌+◌, ◌-◌, ◌*◌, ◌≤◌, ◌<◌, length};
 ghost use Rattle.journal_rules.specs.Listing.{is_answered};
 ghost use Rattle.journal_rules.specs.Region.{sized, first_bad};

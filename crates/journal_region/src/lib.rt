@@ -1,4 +1,6 @@
 // The search of a region for its first bad block.
+#![tactic(auto)]
+
 ghost use Rattle.std.specs.Prelude.{◌≡◌, true};
 ghost use Rattle.journal_rules.specs.Region.{sized, blocks as region_blocks};
 ghost use Rattle.journal_region.specs.Search.{search_as, searched};

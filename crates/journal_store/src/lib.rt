@@ -1,4 +1,6 @@
 // The calls that change a region: the store of an entry and the repair of the first bad block, whole or cut.
+#![tactic(auto)]
+
 ghost use Rattle.std.specs.Prelude.{◌≡◌, ◌+◌, ◌*◌, ◌≤◌, min, length};
 ghost use Rattle.std.proofs.Math.Seq.{paste};
 ghost use Rattle.journal_rules.specs.Block.{journal_entry};

@@ -1,1 +1,2 @@
 // No code: definitions and laws that several crates share.
+#![tactic(auto)]

@@ -1,4 +1,6 @@
 // The ration: how many bytes an end may still send, or still has room for, on one session.
+#![tactic(auto)]
+
 ghost use Rattle.std.specs.Prelude.{◌≡◌};
 ghost use Rattle.ration.specs.Ration.{largest, from_header, in_range, spend, grow};
 
@@ -40,7 +42,7 @@ impl Ration {
     // Whether a finite ration is at most the largest, which is the constant above.
     pub fn in_range(self) -> bool
         ensures value { result ≡ in_range self }
-        ensures* do_value { do ⌜ (← (⟦Ration::LARGEST⟧).entry) ≡ largest ⌝ }
+        ensures limit { Ration.LARGEST ≡ largest }
     {
         match self {
             Ration::Finite(left) => left <= Ration::LARGEST,

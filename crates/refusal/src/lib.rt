@@ -1,4 +1,6 @@
 // Why a call is refused, and how a peer breaks the protocol, by name and by number, with the place of the byte at fault.
+#![tactic(auto)]
+
 ghost use Rattle.std.specs.Prelude.{◌≡◌};
 ghost use Rattle.refusal.specs.Number.{refusal_number, violation_number, fault_as};
 

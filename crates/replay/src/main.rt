@@ -2,6 +2,8 @@
 //
 // The script is on standard input, and the lines go to standard output; the reason of a script error goes to standard error. It is
 // tested on two sessions of a client, against lines that are made by hand from the rules; scripts/ has more.
+#![tactic(auto)]
+
 mod input;
 mod play;
 mod reason;

@@ -1,4 +1,6 @@
 // The script of a replay: what a line asks.
+#![tactic(auto)]
+
 mod calls;
 mod names;
 

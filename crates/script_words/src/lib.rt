@@ -1,4 +1,6 @@
 // The words of a script's line: where a word ends, bytes, and decimal numbers.
+#![tactic(auto)]
+
 mod hex;
 mod numbers;
 mod words;

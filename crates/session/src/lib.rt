@@ -1,4 +1,6 @@
 // One session: what a step of it answers, and the parts that the steps share. The table of sessions is not here.
+#![tactic(auto)]
+
 pub mod parts;
 
 use refusal::Refusal;

@@ -1,4 +1,6 @@
 // Close and abort: our side ends.
+#![tactic(auto)]
+
 ghost use Rattle.std.specs.Prelude.{◌≡◌, ◌-◌};
 ghost use Rattle.state.specs.With.{with_sides};
 ghost use Rattle.protocol.specs.Session.{dropped as session_dropped, settled as session_settled};

@@ -1,4 +1,6 @@
 // Grant: the far end may send more.
+#![tactic(auto)]
+
 ghost use Rattle.std.specs.Prelude.{◌≡◌, not, ◌||◌, false, ◌-◌, eqb, ltb, [], ◌∷◌};
 ghost use Rattle.laws.specs.Result.{ok};
 ghost use Rattle.ration.specs.Ration.{grantable};

@@ -1,4 +1,6 @@
 // Open: a client's session begins, with nothing sent yet.
+#![tactic(auto)]
+
 ghost use Rattle.std.specs.Prelude.{◌≡◌};
 ghost use Rattle.state.specs.declared.Sides.TheVariants.{Live};
 ghost use Rattle.protocol.specs.Ask.{opened as ask_opened, open_of, open_ask};

@@ -1,4 +1,6 @@
 // One session's step at each received message. The table of sessions is not here.
+#![tactic(auto)]
+
 mod data_messages;
 mod end_messages;
 mod increments;

@@ -1,4 +1,6 @@
 // One session's steps for sending: put bytes, ask for the end, and the turn that sends them.
+#![tactic(auto)]
+
 mod putting;
 mod turns;
 

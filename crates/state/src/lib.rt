@@ -1,4 +1,6 @@
 // The state of one end of a connection, and what its calls answer.
+#![tactic(auto)]
+
 ghost use Rattle.std.specs.Prelude.{◌≡◌};
 ghost use Rattle.state.specs.New.{fresh};
 ghost use Rattle.state.specs.With.{with_sides, with_rations, with_waiting, with_outcome, with_stage, with_ping};

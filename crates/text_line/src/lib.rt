@@ -1,4 +1,6 @@
 // A line of text that is put together piece by piece: words, numbers, items and flags.
+#![tactic(auto)]
+
 mod pieces;
 
 pub use pieces::first;

@@ -1,4 +1,6 @@
 // The words of a message, and of a fault in one, put behind the end of a line of text.
+#![tactic(auto)]
+
 ghost use Rattle.wire.specs.declared.Message.TheVariants.{IncrementRation, Abort, Data};
 ghost use Rattle.text_line.specs.Line.{line_text, added, LineIs};
 ghost use Rattle.text_message.specs.Message.{message_text, fault_text};

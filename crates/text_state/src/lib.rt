@@ -1,4 +1,6 @@
 // The words of a call's answer, and of the state of a connection and each session.
+#![tactic(auto)]
+
 mod answers;
 mod parts;
 mod states;

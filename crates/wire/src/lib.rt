@@ -1,4 +1,5 @@
 // The messages of the multiplexing protocol and the ends that send them.
+#![tactic(auto)]
 
 // An end of the connection.
 #[derive(Drop)]

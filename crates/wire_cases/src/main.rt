@@ -3,6 +3,8 @@
 // The byte strings are on standard input, the file stdin, which says how its lines are read. The expected output, the file
 // stdout, is made by hand from the published tables, where each byte string is looked up row by row, and from the rules of the
 // ration; none of its lines is copied from a run.
+#![tactic(auto)]
+
 mod rations;
 mod reads;
 mod show;

@@ -1,4 +1,6 @@
 // The header at the start of each direction, read and written.
+#![tactic(auto)]
+
 mod reading;
 mod writing;
 

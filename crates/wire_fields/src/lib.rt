@@ -1,4 +1,6 @@
 // What reader and writer share about a message: its items, how many bytes follow it or are granted by it, and who may send it.
+#![tactic(auto)]
+
 mod amounts;
 mod items;
 mod roles;

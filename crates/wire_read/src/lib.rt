@@ -1,4 +1,6 @@
 // The reader of messages.
+#![tactic(auto)]
+
 mod headers;
 mod messages;
 mod sizes;

@@ -1,4 +1,6 @@
 // The writer of messages: the header bytes of any message, and a message with its body in a room.
+#![tactic(auto)]
+
 mod headers;
 mod messages;
 

@@ -1,4 +1,6 @@
 // The words of a state, read and set: where each word is, a session, the parts of the head, the end of a connection, and a state just made.
+#![tactic(auto)]
+
 mod ending;
 mod head;
 mod making;

@@ -1,4 +1,6 @@
 // Whether words are those of a connection that is well formed: no branch for a session.
+#![tactic(auto)]
+
 ghost use Rattle.std.specs.Prelude.{◌≡◌, ◌+◌, ◌%◌, ◌^◌, ◌≤◌, length, drop, bit_or};
 ghost use Rattle.protocol.specs.Connection.{all_formed, well_formed};
 ghost use Rattle.words.specs.State.{stage_at, over_at, own_at, ping_at, spare_at, word_count, head_in_range, all_zero, sessions_of, connection_of};
