@@ -20,7 +20,7 @@ pub(crate) fn put_behind(slot: &mut [u8], waiting: usize, src: &[u8])
     ensures { slot.new ≡ put_slot waiting src.now slot.old }
 {
     let end = waiting + src.len();
-    bytes::copy(src, &mut slot[waiting..]);
+    byte_slices::copy(src, &mut slot[waiting..]);
     clear(&mut slot[end..]);
 }
 

@@ -79,7 +79,7 @@ fn line_end(input: &[u8], place: Place) -> usize {
     let to = place.to;
     if from <= to {
         if to <= input.len() {
-            return bytes::scan::find(input, from, to, 10);
+            return byte_slices::find(input, from, to, 10);
         }
     }
     to

@@ -8,7 +8,7 @@ use lib.Dec.{eqb}
 use lib.ListN.{length, take, drop, length-drop, drop_of_length-le}
 use lib.Seq.{take-length, take_all}
 use borrow.Author.Tests.{eqb-true, eq-eqb}
-use Rattle.bytes.specs.Bytes.{index_of, slice}
+use Rattle.byte_slices.specs.Bytes.{index_of, slice}
 use Rattle.laws.proofs.Tests.{and_first, and_second, and_both}
 use Rattle.script_words.specs.Words.{same, tail_of}
 

@@ -1,9 +1,9 @@
 // The words of a line, which are separated by one space.
 ghost use Rattle.std.specs.Prelude.{◌≡◌, ◌≤◌, length};
-ghost use Rattle.bytes.specs.Bytes.{index_of};
+ghost use Rattle.byte_slices.specs.Bytes.{index_of};
 ghost use Rattle.script_words.specs.Words.{head_of, tail_of, has_more, is_skipped, same};
 
-use bytes::scan::find;
+use byte_slices::find;
 
 // The place of the first space, or the length.
 fn space(s: &[u8]) -> usize

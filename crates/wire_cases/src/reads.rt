@@ -1,6 +1,6 @@
 // Byte strings through the reader: a table of them, line by line.
 use crate::show;
-use bytes::scan::find;
+use byte_slices::find;
 use script_words::{Size, from_hex, head, is, tail};
 use text_line::first;
 use wire::{Message, Role};

@@ -4,7 +4,7 @@ ghost use Rattle.wire.specs.Connection.{write_connection_header};
 ghost use Rattle.wire_connection_header.specs.Answer.{written_as};
 
 use crate::Written;
-use bytes::copy;
+use byte_slices::copy;
 use refusal::Refusal;
 
 // Writes the connection header with a header number.

@@ -5,7 +5,7 @@ ghost use Rattle.wire.specs.Message.{header, writable, write_message};
 ghost use Rattle.wire_connection_header.specs.Answer.{written_as};
 
 use crate::headers::header_of;
-use bytes::copy;
+use byte_slices::copy;
 use refusal::Refusal;
 use wire::{Message, Role};
 use wire_connection_header::Written;

@@ -1,0 +1,2 @@
+-- The definitions of bytes in a slice.
+pub mod Bytes

@@ -1,0 +1,31 @@
+// Bytes of a slice: the place of the first of a value, and a copy into another slice.
+#![tactic(auto)]
+
+ghost use Rattle.std.specs.Prelude.{◌≡◌, ◌+◌, ◌≤◌, ◌++◌, length, take, drop};
+ghost use Rattle.byte_slices.specs.Bytes.{index_of, slice};
+
+// The index of the first byte of a value between two indices, or the second index if none is there.
+pub fn find(s: &[u8], from: usize, to: usize, value: u8) -> usize
+    requires low { from ≤ to }
+    requires high { to ≤ length s.now }
+    ensures place { result ≡ from + index_of value (slice from to s.now) }
+    ensures within { result ≤ to }
+{
+    let mut i = from;
+    while i < to {
+        if s[i] == value {
+            return i;
+        }
+        i += 1;
+    }
+    to
+}
+
+// Copies all bytes to the front of a slice, whose other bytes stay.
+pub fn copy(src: &[u8], dst: &mut [u8])
+    requires { length src.now ≤ length dst.old }
+    ensures sized { length dst.new ≡ length dst.old }
+    ensures copied { dst.new ≡ take (length src.now) src.now ++ drop (length src.now) dst.old }
+{
+    dst[..src.len()].copy_from_slice(src);
+}
