@@ -11,7 +11,7 @@ pub use results::{done, refused};
 pub use stepping::take_step_in;
 
 // The result of the checks that come before a call's own.
-#[derive(Drop)]
+#[derive(Clone, Copy)]
 pub enum Gate {
     Passed,
     Refused(Refusal),

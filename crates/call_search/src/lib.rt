@@ -6,7 +6,7 @@ ghost use Rattle.laws.specs.Circle.{following as circle_following};
 ghost use Rattle.call_search.specs.Flags.{is_set, first_set, nearest_set};
 
 // The number of a flag that is set, or none.
-#[derive(Drop)]
+#[derive(Clone, Copy)]
 pub enum Found {
     Nothing,
     At(u8),

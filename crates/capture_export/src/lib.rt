@@ -14,7 +14,7 @@ pub use messages::items_of;
 use wire::Role;
 
 // The items of a message: the number of the type, the flags or the shift, the session, and the length, cookie or increment.
-#[derive(Drop)]
+#[derive(Clone, Copy)]
 pub struct Items {
     pub kind: u64,
     pub flags: u64,
@@ -24,7 +24,7 @@ pub struct Items {
 
 // What is at a place of a capture: the number of a refusal or violation, or 0; the place of the byte at fault, or 0; the place to read
 // on from; and the items of the message, or 0.
-#[derive(Drop)]
+#[derive(Clone, Copy)]
 pub struct Finding {
     pub number: u64,
     pub fault: u64,

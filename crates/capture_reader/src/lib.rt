@@ -13,7 +13,7 @@ use wire::Role;
 pub const FIRST_PLACE: usize = 8;
 
 // A reader at a place of the capture that is lent to it.
-#[derive(Drop)]
+#[derive(Clone, Copy)]
 pub struct Reader<'a> {
     pub capture: &'a [u8],
     pub place: usize,

@@ -5,7 +5,7 @@ use refusal::{Fault, Refusal};
 use wire::Message;
 
 // The next message, or why there is none; the place of a fault counts from the message's first byte.
-#[derive(Drop)]
+#[derive(Clone, Copy)]
 pub enum Next {
     Message(Message),
     Refused(Refusal),
@@ -13,7 +13,7 @@ pub enum Next {
 }
 
 // What is at a place, and the place to read on from: behind a message, or the same place after a refusal.
-#[derive(Drop)]
+#[derive(Clone, Copy)]
 pub struct Step {
     pub next: Next,
     pub place: usize,

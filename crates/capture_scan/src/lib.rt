@@ -15,7 +15,7 @@ use capture_rules::Next;
 use wire::{Message, Role};
 
 // What was read up to a place; the number is 0 while reading goes on.
-#[derive(Drop)]
+#[derive(Clone, Copy)]
 pub struct Tally {
     pub number: u64,
     pub fault: u64,

@@ -8,14 +8,14 @@ use clock_numbers::{held, larger, within};
 use clock_sample::Clock;
 
 // Where the limit for a ping comes from: it is fixed, or measured and held between a floor and a ceiling.
-#[derive(Drop)]
+#[derive(Clone, Copy)]
 pub enum Setting {
     Fixed { limit: f64 },
     Measured { floor: f64, ceiling: f64 },
 }
 
 // What `limit_of` answers.
-#[derive(Drop)]
+#[derive(Clone, Copy)]
 pub enum Limit {
     Milliseconds(f64),
     // The clock's state or the setting is out of its range.

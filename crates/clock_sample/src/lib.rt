@@ -10,7 +10,7 @@ use clock_numbers::{distance, within};
 pub use sampler::{take_sample, with_sample};
 
 // The smoothed time and the deviation are in milliseconds.
-#[derive(Drop)]
+#[derive(Clone, Copy)]
 pub struct Clock {
     // Whether a sample has come.
     pub sampled: bool,
@@ -19,7 +19,7 @@ pub struct Clock {
 }
 
 // The answer to a sample.
-#[derive(Drop)]
+#[derive(Clone, Copy)]
 pub enum SampleAnswer {
     Taken,
     // The clock's state or the sample is out of its range.
@@ -27,7 +27,7 @@ pub enum SampleAnswer {
 }
 
 // The answer to a sample, and the clock after it: a refusal leaves the clock as it was.
-#[derive(Drop)]
+#[derive(Clone, Copy)]
 pub struct Update {
     pub outcome: SampleAnswer,
     pub clock: Clock,

@@ -10,7 +10,7 @@ pub use stages::{exchanged, far_start, own_start, role_of};
 pub use table::{session_at, with_session};
 
 // What ends a connection.
-#[derive(Drop)]
+#[derive(Clone, Copy)]
 pub enum Cause {
     ShutdownReceived,
     ErrorReceived,

@@ -12,14 +12,14 @@ use state::{Answer, Connection};
 pub use verdicts::{incomplete, violated};
 
 // What is written: at most one thing, or our connection header and then Error.
-#[derive(Drop)]
+#[derive(Clone, Copy)]
 pub enum Reply {
     Only(Outgoing),
     HeaderError(u16),
 }
 
 // The decision of a receive: the connection after it, the answer, and the reply, which is not yet written.
-#[derive(Drop)]
+#[derive(Clone, Copy)]
 pub struct Judged {
     pub connection: Connection,
     pub answer: Answer,
@@ -27,7 +27,7 @@ pub struct Judged {
 }
 
 // How many bytes of the input an answer uses, and where among them its payload starts and ends.
-#[derive(Drop)]
+#[derive(Clone, Copy)]
 pub struct Extent {
     pub used: usize,
     pub start: usize,

@@ -16,7 +16,7 @@ use wire_fields::body_length;
 use wire_write::put_message;
 
 // Nothing, our connection header, or a message.
-#[derive(Drop)]
+#[derive(Clone, Copy)]
 pub enum Outgoing {
     Nothing,
     Header(u16),

@@ -269,7 +269,7 @@ module _ (setup : Setup) (hh : Proper setup) (queue : List ℕ) where
     where
       go : (b : Bool) → leb 128 (meaning k).number ≡ b → answer_told setup (length queue) (account_of (log.run setup queue ks) (meaning k).number) k rest
           ≡ answer_told setup (length queue) (observed setup (meaning k).number (log.log setup queue ks)) k rest
-      go true e = unknown setup (length queue) _ _ (sym (line_is (meaning k).number ks)) k rest e
+      go true e = unknown setup (length queue) (account_of (log.run setup queue ks) (meaning k).number) (observed setup (meaning k).number (log.log setup queue ks)) (sym (line_is (meaning k).number ks)) k rest e
       go false e = ap (λ (a : Account). answer_told setup (length queue) a k rest) (sym (observed_is setup hh queue ks (meaning k).number (leb-false 128 (meaning k).number e)))
 
   answered_calls : (ks : List Call) (k : Call) → (out (log.run setup queue ks) k).answer

@@ -9,7 +9,7 @@ ghost use Rattle.journal_keep.specs.Answers.{due_as};
 use state::{Answer, Outcome, Session, Sides};
 
 // Nothing; that the number names a new session, whose start is not stored; or an entry of a kind.
-#[derive(Drop)]
+#[derive(Clone, Copy)]
 pub enum Due {
     Nothing,
     NewSession,

@@ -16,7 +16,7 @@ use state::{Answer, Connection, Session};
 
 // What stops a keep: nothing, so all that is due is stored; power is cut; or a store is refused. What stops one stops all later ones on
 // the connection.
-#[derive(Drop)]
+#[derive(Clone, Copy)]
 pub enum Stopped {
     AllStored,
     Cut,
@@ -27,7 +27,7 @@ pub enum Stopped {
 // stopped the last keep. A program calls a keep after each call of the engine,
 // and sends what the call wrote only if nothing has stopped; else it sends nothing more, and the line is lost. A region serves one
 // connection at a time.
-#[derive(Drop)]
+#[derive(Clone, Copy)]
 pub struct Starts {
     pub stored: [bool; 128],
     pub stopped: Stopped,
@@ -46,7 +46,7 @@ impl Starts {
 }
 
 // The work of a keep: the starts, how many byte stores are left before power is cut, and what has stopped it.
-#[derive(Drop)]
+#[derive(Clone, Copy)]
 pub(crate) struct Work {
     pub stored: [bool; 128],
     pub left: usize,

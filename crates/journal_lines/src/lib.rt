@@ -9,7 +9,7 @@ pub use blocks::{block_named, damage};
 pub use lines::{first_line, later_line};
 
 // What a line asks before there is a region: a region of a length, nothing, or nothing known.
-#[derive(Drop)]
+#[derive(Clone, Copy)]
 pub enum FirstLine {
     Region(usize),
     Skipped,
@@ -17,14 +17,14 @@ pub enum FirstLine {
 }
 
 // A call that changes the region: the store of a session number and a kind, or a repair.
-#[derive(Drop)]
+#[derive(Clone, Copy)]
 pub enum Change {
     Store(u8, u8),
     Repair,
 }
 
 // How many byte stores are made before the power is cut.
-#[derive(Drop)]
+#[derive(Clone, Copy)]
 pub enum Stores {
     All,
     Count(usize),
@@ -32,7 +32,7 @@ pub enum Stores {
 
 // What a line asks where there is a region: a call of the journal, a byte at a place, the print of a block, nothing, or nothing
 // known.
-#[derive(Drop)]
+#[derive(Clone, Copy)]
 pub enum LaterLine {
     Change(Change, Stores),
     Read,
@@ -44,7 +44,7 @@ pub enum LaterLine {
 }
 
 // What the first word of a line names where there is a region.
-#[derive(Drop)]
+#[derive(Clone, Copy)]
 pub enum Keyword {
     Store,
     Repair,

@@ -12,14 +12,14 @@ use journal_region::{Search, search_region};
 use refusal::Refusal;
 
 // How many entries or starts there are, or a refusal.
-#[derive(Drop)]
+#[derive(Clone, Copy)]
 pub enum Counted {
     Count(u8),
     Refused(Refusal),
 }
 
 // The entries of a region: how many, and the session number and the kind of each, in the order of their serials; zero behind them.
-#[derive(Drop)]
+#[derive(Clone, Copy)]
 pub struct Entries {
     pub answer: Counted,
     pub numbers: [u8; 128],
@@ -27,7 +27,7 @@ pub struct Entries {
 }
 
 // The starts of a region that are not to be retried: how many, and their serials, in order; zero behind them.
-#[derive(Drop)]
+#[derive(Clone, Copy)]
 pub struct Listing {
     pub answer: Counted,
     pub serials: [u8; 128],

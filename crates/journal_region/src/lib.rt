@@ -8,7 +8,7 @@ ghost use Rattle.journal_region.specs.Search.{search_as, searched};
 use journal_block::is_good;
 
 // What a search finds: the region is not 1 to 128 whole blocks, the place of the first bad block, or how many blocks are all good.
-#[derive(Drop)]
+#[derive(Clone, Copy)]
 pub enum Search {
     WrongSize,
     BadAt(u8),

@@ -171,6 +171,7 @@ open_cons k s e es ih true z false a (in_rest y xs q) = open_later k s e es (ih 
 
 open_listed : (k s : ℕ) (es : List JournalEntry) → s ∈ not_to_retry k es → Open k s es
 unfolding not_to_retry
+open_listed k s [] m = elim m [ ]
 open_listed k s (e ∷ es) m =
     open_cons k s e es (open_listed (suc k) s es) (eqb e.kind 0) refl (is_answered e.number es) refl m
 

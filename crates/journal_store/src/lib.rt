@@ -12,7 +12,7 @@ use journal_region::{Search, search_region};
 use refusal::Refusal;
 
 // What a store answers: the serial of the entry that is stored whole, the number of byte stores after which it is cut, or a refusal.
-#[derive(Drop)]
+#[derive(Clone, Copy)]
 pub enum Stored {
     At(u8),
     Cut(u16),
@@ -21,7 +21,7 @@ pub enum Stored {
 
 // What a repair answers: the block that is zeroed, counted from 1; that no block is bad; after how many byte stores it is cut; or a
 // refusal.
-#[derive(Drop)]
+#[derive(Clone, Copy)]
 pub enum Repaired {
     Block(u8),
     None,

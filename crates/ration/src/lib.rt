@@ -5,21 +5,21 @@ ghost use Rattle.std.specs.Prelude.{◌≡◌};
 ghost use Rattle.ration.specs.Ration.{largest, from_header, in_range, spend, grow};
 
 // A finite ration, or one that never runs out.
-#[derive(Drop)]
+#[derive(Clone, Copy)]
 pub enum Ration {
     Finite(u32),
     Endless,
 }
 
 // What spending does: what is left, or nothing because the ration does not allow it.
-#[derive(Drop)]
+#[derive(Clone, Copy)]
 pub enum Spent {
     Left(Ration),
     NotEnough,
 }
 
 // What growing does: the new ration, or nothing because it would pass the largest.
-#[derive(Drop)]
+#[derive(Clone, Copy)]
 pub enum Grown {
     To(Ration),
     PastLargest,

@@ -5,7 +5,7 @@ ghost use Rattle.std.specs.Prelude.{◌≡◌};
 ghost use Rattle.refusal.specs.Number.{refusal_number, violation_number, fault_as};
 
 // Why a call is refused. Such a call changes nothing.
-#[derive(Drop)]
+#[derive(Clone, Copy)]
 pub enum Refusal {
     // The connection headers are not yet exchanged.
     NotExchanged,
@@ -38,7 +38,7 @@ pub enum Refusal {
 }
 
 // How the bytes received break the protocol. Such a receive ends the connection.
-#[derive(Drop)]
+#[derive(Clone, Copy)]
 pub enum Violation {
     // The first byte names no message type.
     UnknownType,
@@ -61,7 +61,7 @@ pub enum Violation {
 }
 
 // A violation, and where the byte at fault is: its offset from the first byte of the header. Refusals have no such byte.
-#[derive(Drop)]
+#[derive(Clone, Copy)]
 pub struct Fault {
     pub violation: Violation,
     pub offset: u16,

@@ -8,7 +8,7 @@ pub use calls::{begin, command_of, payload};
 use wire::Role;
 
 // A call of the engine; the bytes of put and receive are in the line.
-#[derive(Drop)]
+#[derive(Clone, Copy)]
 pub enum Call {
     Start,
     Open(u8),
@@ -25,7 +25,7 @@ pub enum Call {
 }
 
 // What a line asks: a call with a length of room, a print of the state or of a slot of the queue, or nothing known.
-#[derive(Drop)]
+#[derive(Clone, Copy)]
 pub enum Command {
     Call(Call, usize),
     State,
@@ -34,14 +34,14 @@ pub enum Command {
 }
 
 // What the first line says: a connection's role, header number and queue length, or nothing known.
-#[derive(Drop)]
+#[derive(Clone, Copy)]
 pub enum Beginning {
     Made(Role, u16, usize),
     Wrong,
 }
 
 // What a line's first word names.
-#[derive(Drop)]
+#[derive(Clone, Copy)]
 pub enum Name {
     Start,
     Open,

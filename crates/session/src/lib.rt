@@ -10,7 +10,7 @@ use state::Session;
 pub const SLOT_SIZE: u16 = 512;
 
 // A message of ours for a session: no detail, and an increment unshifted.
-#[derive(Drop)]
+#[derive(Clone, Copy)]
 pub enum Sent {
     Nothing,
     Data { length: u16, opens: bool, eof: bool },
@@ -20,7 +20,7 @@ pub enum Sent {
 }
 
 // The session after a step, what is sent, and whether the message received was late.
-#[derive(Drop)]
+#[derive(Clone, Copy)]
 pub struct Taken {
     pub session: Session,
     pub sent: Sent,
@@ -28,7 +28,7 @@ pub struct Taken {
 }
 
 // The result of a local call for its session.
-#[derive(Drop)]
+#[derive(Clone, Copy)]
 pub enum Stepped {
     Taken(Taken),
     Refused(Refusal),

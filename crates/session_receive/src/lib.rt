@@ -13,7 +13,7 @@ use refusal::Violation;
 use session::Taken;
 
 // The result of a received message for its session.
-#[derive(Drop)]
+#[derive(Clone, Copy)]
 pub enum Receipt {
     Taken(Taken),
     Violated(Violation),

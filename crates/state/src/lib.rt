@@ -10,7 +10,7 @@ use refusal::{Fault, Refusal};
 use wire::{Message, Role};
 
 // How far one end of a session is with its sending.
-#[derive(Drop)]
+#[derive(Clone, Copy)]
 pub enum Side {
     Open,
     Finished,
@@ -18,7 +18,7 @@ pub enum Side {
 }
 
 // The sides before a client's open; the far side was ended in the last two.
-#[derive(Drop)]
+#[derive(Clone, Copy)]
 pub enum Before {
     Idle,
     Finished,
@@ -26,7 +26,7 @@ pub enum Before {
 }
 
 // The two sides of a session number: none, ours opening, or ours and theirs.
-#[derive(Drop)]
+#[derive(Clone, Copy)]
 pub enum Sides {
     Idle,
     Opening(Before),
@@ -34,7 +34,7 @@ pub enum Sides {
 }
 
 // What becomes of a client's session (docs/PROTOCOL.md, "Outcomes"); the claims call it the fate.
-#[derive(Drop)]
+#[derive(Clone, Copy)]
 pub enum Outcome {
     None,
     Running,
@@ -44,7 +44,7 @@ pub enum Outcome {
 }
 
 // One session number.
-#[derive(Drop)]
+#[derive(Clone, Copy)]
 pub struct Session {
     pub sides: Sides,
     pub outbound: Ration,
@@ -55,7 +55,7 @@ pub struct Session {
 }
 
 // How far the connection headers are exchanged: not at all, a client's is sent, or both, with the far end's number.
-#[derive(Drop)]
+#[derive(Clone, Copy)]
 pub enum Stage {
     Fresh(Role),
     Started,
@@ -63,14 +63,14 @@ pub enum Stage {
 }
 
 // The ping that is not answered yet.
-#[derive(Drop)]
+#[derive(Clone, Copy)]
 pub enum Ping {
     None,
     Outstanding(u16),
 }
 
 // One end of a connection. `last` is the number that a turn served last, and `own` is our header number.
-#[derive(Drop)]
+#[derive(Clone, Copy)]
 pub struct Connection {
     pub sessions: [Session; 128],
     pub stage: Stage,
@@ -81,7 +81,7 @@ pub struct Connection {
 }
 
 // The parts of a connection that are no sessions.
-#[derive(Drop)]
+#[derive(Clone, Copy)]
 pub struct Head {
     pub stage: Stage,
     pub over: bool,
@@ -91,14 +91,14 @@ pub struct Head {
 }
 
 // What a connection is made from.
-#[derive(Drop)]
+#[derive(Clone, Copy)]
 pub struct Setup {
     pub role: Role,
     pub header: u16,
 }
 
 // What a call answers.
-#[derive(Drop)]
+#[derive(Clone, Copy)]
 pub enum Answer {
     Done,
     Served(u8),
@@ -110,7 +110,7 @@ pub enum Answer {
 
 // What a call gives: the connection after it, the answer, the numbers of bytes used and written, and where in the input
 // the payload of a message is.
-#[derive(Drop)]
+#[derive(Clone, Copy)]
 pub struct Called {
     pub connection: Connection,
     pub answer: Answer,

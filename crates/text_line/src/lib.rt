@@ -5,7 +5,7 @@ mod pieces;
 
 pub use pieces::first;
 // Text of at most 128 bytes: the first bytes, as many as the length says.
-#[derive(Drop)]
+#[derive(Clone, Copy)]
 pub struct Line {
     pub bytes: [u8; 128],
     pub length: usize,

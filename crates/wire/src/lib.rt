@@ -2,14 +2,14 @@
 #![tactic(auto)]
 
 // An end of the connection.
-#[derive(Drop)]
+#[derive(Clone, Copy)]
 pub enum Role {
     Client,
     Server,
 }
 
 // A type of message.
-#[derive(Drop)]
+#[derive(Clone, Copy)]
 pub enum Kind {
     NoOperation,
     Shutdown,
@@ -24,14 +24,14 @@ pub enum Kind {
 }
 
 // What a first byte says about the type.
-#[derive(Drop)]
+#[derive(Clone, Copy)]
 pub enum Named {
     Known(Kind),
     Unknown,
 }
 
 // A message with every item except its data or detail, which are the caller's bytes.
-#[derive(Drop)]
+#[derive(Clone, Copy)]
 pub enum Message {
     NoOperation {
         length: u16,

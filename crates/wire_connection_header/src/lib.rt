@@ -9,14 +9,14 @@ use refusal::{Fault, Refusal};
 pub use writing::write_connection_header;
 
 // What the eight bytes of a connection header say.
-#[derive(Drop)]
+#[derive(Clone, Copy)]
 pub enum ParsedHeader {
     Number(u16),
     Violated(Fault),
 }
 
 // The connection header at the front of an input, or why there is none.
-#[derive(Drop)]
+#[derive(Clone, Copy)]
 pub enum ReadHeader {
     Number(u16),
     Incomplete,
@@ -24,7 +24,7 @@ pub enum ReadHeader {
 }
 
 // What a writer did: the number of bytes it wrote, or why it wrote none.
-#[derive(Drop)]
+#[derive(Clone, Copy)]
 pub enum Written {
     Wrote(usize),
     Refused(Refusal),

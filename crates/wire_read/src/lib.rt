@@ -10,14 +10,14 @@ use refusal::Fault;
 use wire::Message;
 
 // What the four header bytes of a message say.
-#[derive(Drop)]
+#[derive(Clone, Copy)]
 pub enum Parsed {
     Message(Message),
     Violated(Fault),
 }
 
 // The message at the front of an input, or why there is none.
-#[derive(Drop)]
+#[derive(Clone, Copy)]
 pub enum Read {
     Message(Message),
     Incomplete,
@@ -25,7 +25,7 @@ pub enum Read {
 }
 
 // What is at the front of an input, and how many bytes the message has, its header and its body; 0 where there is none.
-#[derive(Drop)]
+#[derive(Clone, Copy)]
 pub struct Sized {
     pub read: Read,
     pub size: usize,

@@ -1,0 +1,2 @@
+-- The law of a search, step by step.
+pub mod Search
