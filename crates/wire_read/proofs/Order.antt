@@ -60,11 +60,11 @@ order_clear false {f} {c} place have m p q = no _ _ _ refl ∙ order_sender fals
 
 -- ---- the test of a session number, as the code has it
 
-pub no_session : {x t : Bool} → x ≡ t → not x ≡ true → t ≡ false
-no_session {x} p q = sym p ∙ not_true x q
+pub no_session : {x t : Bool} → x ≡ t → x ≡ false → t ≡ false
+no_session p q = sym p ∙ q
 
-pub a_session : {x t : Bool} → x ≡ t → not x ≡ false → t ≡ true
-a_session {x} p q = sym p ∙ not_false x q
+pub a_session : {x t : Bool} → x ≡ t → x ≡ true → t ≡ true
+a_session p q = sym p ∙ q
 
 -- ---- a session and nothing else
 

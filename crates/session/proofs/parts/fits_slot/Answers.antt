@@ -15,4 +15,4 @@ pub returns : goal.returns
 returns c =
     let a = c.args in
     let full : slot_size - a.waiting ≡ 0 = omega arith in
-    (none-fits a.n ∙ ap (leb a.n) (sym full), refl)
+    record { value = none-fits a.n ∙ ap (leb a.n) (sym full); slot_size_value = refl }

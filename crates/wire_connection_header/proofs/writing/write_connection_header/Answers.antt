@@ -1,0 +1,9 @@
+-- `write_connection_header` meets its contract, by the laws of its room.
+use Rattle.wire.proofs.Writing.{header_ok, header_no_room}
+use Rattle.wire_connection_header.proofs.writing.write_connection_header.Goals as goal
+
+pub returns-then-room-lt8 : goal.returns-then-room-lt8
+returns-then-room-lt8 c = header_no_room _ _ c.if-room-lt8.true
+
+pub returns : goal.returns
+returns c = header_ok _ _ c.if-room-lt8.false c.copy.ensures.copied
