@@ -39,9 +39,9 @@ module _ (r : List ℕ) where
   well_sized (search.AllGood n) e z = (tells_good r n e).is_sized_lem
 
   -- neither a wrong size nor a bad block
-  pub none_left : (s : Search) → search_as s ≡ searched r → is_sized s ≡ true → (tag_of the_type s ≡ 0) ⊎ (tag_of the_type s ≡ 2) → full r ≡ true
+  pub none_left : (s : Search) → search_as s ≡ searched r → is_sized s ≡ true → ((p : ℕ) → s ≡ search.BadAt p → ⊥) → full r ≡ true
   none_left search.WrongSize e z k = absurd (true_false z refl)
-  none_left (search.BadAt p) e z k = absurd (⊎_elim (λ x. omega arith) (λ x. omega arith) k)
+  none_left (search.BadAt p) e z k = absurd (k p refl)
   none_left (search.AllGood n) e z k = (tells_good r n e).is_full
 
 module _ (r : List ℕ) (k : ℕ) (t : TellsBad r k) where

@@ -41,7 +41,7 @@ returns-in_default c =
     let is = c.search_region-found.ensures in
     store_16 a.region.now (journal_entry a.number a.kind) a.stores (well_sized a.region.now s is right)
     c.if-number-gt127.false c.if-kind-gt3.false
-    (none_left a.region.now s is right c.in_default.in_default-own.keys2)
+    (none_left a.region.now s is right c.in_default.not-BadAt)
 
 pub overflow_add-serial : goal.overflow_add-serial
 overflow_add-serial c =

@@ -1,0 +1,12 @@
+-- `to_write` meets its contract: one check more than `is_up`.
+use mathlib.Core.Path.{refl}
+use lib.Dec.{ltb}
+use Rattle.protocol.specs.Plan.{take}
+use Rattle.protocol.specs.Call.{up_and_running}
+use Rattle.call_checks.proofs.Checks.{one_more}
+use Rattle.call_checks.proofs.gates.to_write.Goals as goal
+
+pub returns : goal.returns
+returns c =
+    let a = c.args in
+    one_more (up_and_running a.c (take tt)) (ltb a.room 4) 8 c.further.ensures refl c.is_up.ensures
