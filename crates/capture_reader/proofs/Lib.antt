@@ -1,5 +1,3 @@
--- The law of the reader of captures, and what the proofs by hand share.
+-- The law of the reader of captures, and its places.
 pub mod Laws
 pub mod Places
-mod Held
-mod Lent

@@ -12,9 +12,9 @@ unfolding command_of
 returns-in-Start c =
     let a = c.args in
     let head = c.head in
-    let name_of = c.name_of-name in
+    let named = c.name_of-name in
     c.with_room.ensures ∙ sym (ap (λ (m : Name). command_as m a.line.now (tail_of a.line.now)) (told name_of
-    head.ensures name_of.ensures c.in-Start.is))
+    head.ensures named.ensures c.in-Start.is))
 
 pub returns-in-Open : goal.returns-in-Open
 unfolding command_of
@@ -22,9 +22,9 @@ returns-in-Open c =
     let tail = c.tail-rest in
     let a = c.args in
     let head = c.head in
-    let name_of = c.name_of-name in
+    let named = c.name_of-name in
     c.open_session.ensures ∙ ap open_command tail.ensures ∙ sym (ap (λ (m : Name). command_as m a.line.now (tail_of
-    a.line.now)) (told name_of head.ensures name_of.ensures c.in-Open.is))
+    a.line.now)) (told name_of head.ensures named.ensures c.in-Open.is))
 
 pub returns-in-Put : goal.returns-in-Put
 unfolding command_of
@@ -32,9 +32,9 @@ returns-in-Put c =
     let tail = c.tail-rest in
     let a = c.args in
     let head = c.head in
-    let name_of = c.name_of-name in
+    let named = c.name_of-name in
     c.put.ensures ∙ ap put_command tail.ensures ∙ sym (ap (λ (m : Name). command_as m a.line.now (tail_of
-    a.line.now)) (told name_of head.ensures name_of.ensures c.in-Put.is))
+    a.line.now)) (told name_of head.ensures named.ensures c.in-Put.is))
 
 pub returns-in-Finish : goal.returns-in-Finish
 unfolding command_of
@@ -42,18 +42,18 @@ returns-in-Finish c =
     let tail = c.tail-rest in
     let a = c.args in
     let head = c.head in
-    let name_of = c.name_of-name in
+    let named = c.name_of-name in
     c.finish.ensures ∙ ap finish_command tail.ensures ∙ sym (ap (λ (m : Name). command_as m a.line.now (tail_of
-    a.line.now)) (told name_of head.ensures name_of.ensures c.in-Finish.is))
+    a.line.now)) (told name_of head.ensures named.ensures c.in-Finish.is))
 
 pub returns-in-Turn : goal.returns-in-Turn
 unfolding command_of
 returns-in-Turn c =
     let a = c.args in
     let head = c.head in
-    let name_of = c.name_of-name in
+    let named = c.name_of-name in
     c.with_room-in-Turn.ensures ∙ sym (ap (λ (m : Name). command_as m a.line.now (tail_of a.line.now)) (told name_of
-    head.ensures name_of.ensures c.in-Turn.is))
+    head.ensures named.ensures c.in-Turn.is))
 
 pub returns-in-Grant : goal.returns-in-Grant
 unfolding command_of
@@ -61,9 +61,9 @@ returns-in-Grant c =
     let tail = c.tail-rest in
     let a = c.args in
     let head = c.head in
-    let name_of = c.name_of-name in
+    let named = c.name_of-name in
     c.grant.ensures ∙ ap (session_command grant_command) tail.ensures ∙ sym (ap (λ (m : Name). command_as m a.line.now
-    (tail_of a.line.now)) (told name_of head.ensures name_of.ensures c.in-Grant.is))
+    (tail_of a.line.now)) (told name_of head.ensures named.ensures c.in-Grant.is))
 
 pub returns-in-Abort : goal.returns-in-Abort
 unfolding command_of
@@ -71,9 +71,9 @@ returns-in-Abort c =
     let tail = c.tail-rest in
     let a = c.args in
     let head = c.head in
-    let name_of = c.name_of-name in
+    let named = c.name_of-name in
     c.abort.ensures ∙ ap (session_command abort_command) tail.ensures ∙ sym (ap (λ (m : Name). command_as m a.line.now
-    (tail_of a.line.now)) (told name_of head.ensures name_of.ensures c.in-Abort.is))
+    (tail_of a.line.now)) (told name_of head.ensures named.ensures c.in-Abort.is))
 
 pub returns-in-Close : goal.returns-in-Close
 unfolding command_of
@@ -81,9 +81,9 @@ returns-in-Close c =
     let tail = c.tail-rest in
     let a = c.args in
     let head = c.head in
-    let name_of = c.name_of-name in
+    let named = c.name_of-name in
     c.close.ensures ∙ ap close_command tail.ensures ∙ sym (ap (λ (m : Name). command_as m a.line.now (tail_of
-    a.line.now)) (told name_of head.ensures name_of.ensures c.in-Close.is))
+    a.line.now)) (told name_of head.ensures named.ensures c.in-Close.is))
 
 pub returns-in-Ping : goal.returns-in-Ping
 unfolding command_of
@@ -91,27 +91,27 @@ returns-in-Ping c =
     let tail = c.tail-rest in
     let a = c.args in
     let head = c.head in
-    let name_of = c.name_of-name in
+    let named = c.name_of-name in
     c.ping.ensures ∙ ap ping_command tail.ensures ∙ sym (ap (λ (m : Name). command_as m a.line.now (tail_of
-    a.line.now)) (told name_of head.ensures name_of.ensures c.in-Ping.is))
+    a.line.now)) (told name_of head.ensures named.ensures c.in-Ping.is))
 
 pub returns-in-Shutdown : goal.returns-in-Shutdown
 unfolding command_of
 returns-in-Shutdown c =
     let a = c.args in
     let head = c.head in
-    let name_of = c.name_of-name in
+    let named = c.name_of-name in
     c.with_room-in-Shutdown.ensures ∙ sym (ap (λ (m : Name). command_as m a.line.now (tail_of a.line.now)) (told name_of
-    head.ensures name_of.ensures c.in-Shutdown.is))
+    head.ensures named.ensures c.in-Shutdown.is))
 
 pub returns-in-Lost : goal.returns-in-Lost
 unfolding command_of
 returns-in-Lost c =
     let a = c.args in
     let head = c.head in
-    let name_of = c.name_of-name in
+    let named = c.name_of-name in
     c.alone.ensures ∙ sym (ap (λ (m : Name). command_as m a.line.now (tail_of a.line.now)) (told name_of
-    head.ensures name_of.ensures c.in-Lost.is))
+    head.ensures named.ensures c.in-Lost.is))
 
 pub returns-in-Receive : goal.returns-in-Receive
 unfolding command_of
@@ -119,18 +119,18 @@ returns-in-Receive c =
     let tail = c.tail-rest in
     let a = c.args in
     let head = c.head in
-    let name_of = c.name_of-name in
+    let named = c.name_of-name in
     c.receive.ensures ∙ ap receive_command tail.ensures ∙ sym (ap (λ (m : Name). command_as m a.line.now (tail_of
-    a.line.now)) (told name_of head.ensures name_of.ensures c.in-Receive.is))
+    a.line.now)) (told name_of head.ensures named.ensures c.in-Receive.is))
 
 pub returns-in-State : goal.returns-in-State
 unfolding command_of
 returns-in-State c =
     let a = c.args in
     let head = c.head in
-    let name_of = c.name_of-name in
+    let named = c.name_of-name in
     c.alone-in-State.ensures ∙ sym (ap (λ (m : Name). command_as m a.line.now (tail_of a.line.now)) (told name_of
-    head.ensures name_of.ensures c.in-State.is))
+    head.ensures named.ensures c.in-State.is))
 
 pub returns-in-Queue : goal.returns-in-Queue
 unfolding command_of
@@ -138,15 +138,15 @@ returns-in-Queue c =
     let tail = c.tail-rest in
     let a = c.args in
     let head = c.head in
-    let name_of = c.name_of-name in
+    let named = c.name_of-name in
     c.queue.ensures ∙ ap queue_command tail.ensures ∙ sym (ap (λ (m : Name). command_as m a.line.now (tail_of
-    a.line.now)) (told name_of head.ensures name_of.ensures c.in-Queue.is))
+    a.line.now)) (told name_of head.ensures named.ensures c.in-Queue.is))
 
 pub returns-in-Unknown : goal.returns-in-Unknown
 unfolding command_of
 returns-in-Unknown c =
     let a = c.args in
     let head = c.head in
-    let name_of = c.name_of-name in
+    let named = c.name_of-name in
     sym (ap (λ (m : Name). command_as m a.line.now (tail_of a.line.now)) (told name_of head.ensures
-    name_of.ensures c.in-Unknown.is))
+    named.ensures c.in-Unknown.is))

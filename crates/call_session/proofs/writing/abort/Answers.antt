@@ -1,0 +1,19 @@
+-- `abort` meets its contract: the session's step, by the rule of the call.
+use mathlib.Core.Path.{ap, ◌∙◌}
+use lib.ListN.{length}
+use Rattle.protocol.specs.Connection.{at, role_of}
+use Rattle.protocol.specs.Ask.{abort_ask}
+use Rattle.protocol.specs.Call.{abort_rule}
+use Rattle.protocol.specs.Result.{in_room, abort_call}
+use Rattle.protocol.specs.Judge.{done, setting_session}
+use Rattle.call_checks.specs.Stepped.{checks}
+use Rattle.call_checks.proofs.Calls.{by_rule}
+use Rattle.call_session.proofs.writing.abort.Goals as goal
+
+pub returns : goal.returns
+unfolding abort_call abort_rule
+returns c =
+    let a = c.args in
+    c.take_step_in.ensures
+    ∙ ap (in_room a.c a.room.now)
+    (by_rule (setting_session a.c a.n a.c.last done) (checks a.c a.n (length a.room.now)) (abort_ask (role_of a.c.stage) (at a.c a.n) a.partial) (rw (c.session_at.ensures, c.role_of.ensures) at c.step_abort-stepped.ensures))

@@ -1,0 +1,19 @@
+-- `grant` meets its contract: the session's step, by the rule of the call.
+use mathlib.Core.Path.{ap, ◌∙◌}
+use lib.ListN.{length}
+use Rattle.protocol.specs.Connection.{at}
+use Rattle.protocol.specs.Ask.{grant_ask}
+use Rattle.protocol.specs.Call.{grant_rule}
+use Rattle.protocol.specs.Result.{in_room, grant_call}
+use Rattle.protocol.specs.Judge.{done, setting_session}
+use Rattle.call_checks.specs.Stepped.{checks}
+use Rattle.call_checks.proofs.Calls.{by_rule}
+use Rattle.call_session.proofs.writing.grant.Goals as goal
+
+pub returns : goal.returns
+unfolding grant_call grant_rule
+returns c =
+    let a = c.args in
+    c.take_step_in.ensures
+    ∙ ap (in_room a.c a.room.now)
+    (by_rule (setting_session a.c a.n a.c.last done) (checks a.c a.n (length a.room.now)) (grant_ask (at a.c a.n) a.amount) (rw c.session_at.ensures at c.step_grant-stepped.ensures))
