@@ -3,13 +3,19 @@ use Rattle.std.proofs.Common.{arith}
 use Rattle.capture_scan.proofs.Tallies.{found_here, place_after_lem}
 use Rattle.capture_scan.proofs.with_next.Goals as goal
 
+pub overflow_add-result : goal.overflow_add-result
+overflow_add-result c =
+    let r = c.read_at-step in
+    let p = rw c.in-Message.is at (place_after_lem _ _ c.args.t r.result r.ensures) in
+    omega arith
+
 pub returns-in-Message : goal.returns-in-Message
 returns-in-Message c =
     let r = c.read_at-step in
     let t = c.args.t in
     let p = rw c.in-Message.is at (place_after_lem _ _ t r.result r.ensures) in
     let e = found_here _ _ t r.result r.ensures in
-    (rw (e, c.in-Message.is, p, c.wrapping_add_u64.ensures, c.packed_items.ensures), omega arith)
+    (rw (e, c.in-Message.is, p, c.wrapping_add_u64.ensures.value, c.packed_items.ensures), omega arith)
 
 pub returns-in-Refused : goal.returns-in-Refused
 returns-in-Refused c =

@@ -1,5 +1,5 @@
 use mathlib.Core.Path.{refl, sym, ap, ap₂, ◌∙◌}
-use mathlib.Core.Bool.{Bool, false}
+use mathlib.Core.Bool.{Bool, false, ◌&&◌}
 use native.Mathlib.Omega.{arith}
 use lib.ListN.{get_or}
 use Rattle.state.specs.New.{blank}
@@ -22,12 +22,12 @@ loop-n-preserved c =
     let l = c.loop-n in
     let a = c.args in
     let w = work_as l.work l.region in
-    let x = get_or a.t3 l.n blank in (
+    let x = get_or a.table l.n blank in (
       omega (arith, c.loop-n-test.true),
       omega (arith, l.invariant.1),
       search rules,
       l.invariant.3,
-      one_more a.t3 (answer_as a.answer) a.written.now l.n c.loop-n-test.true w (work_as c.keep_due-work.result c.keep_due-work.new.0)
+      one_more a.table (answer_as a.answer) a.written.now l.n c.loop-n-test.true w (work_as c.keep_due-work.result c.keep_due-work.new.region)
           (c.keep_due-work.ensures
           ∙ ap (λ (d : DueEntry). keep_due l.n d w)
           (c.due_for-due.ensures
@@ -42,4 +42,4 @@ pub returns : goal.returns
 returns c =
     let l = c.loop-n in
     let a = c.args in
-    sym (none_left a.t3 (answer_as a.answer) a.written.now l.n (work_as l.work l.region) (omega (arith, c.loop-n-test.false))) ∙ l.invariant.4
+    sym (none_left a.table (answer_as a.answer) a.written.now l.n (work_as l.work l.region) (omega (arith, c.loop-n-test.false))) ∙ l.invariant.4

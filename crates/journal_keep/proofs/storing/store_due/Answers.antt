@@ -43,7 +43,7 @@ pub returns-in-AllStored : goal.returns-in-AllStored
 returns-in-AllStored c =
     let a = c.args in
     let w = work_as a.work a.region.now in
-    c.after_store.ensures a.region.now c.store_some-answer.new.0
+    c.after_store.ensures a.region.now c.store_some-answer.new.region
     ∙ ap (after_store a.number a.kind w) c.store_some-answer.ensures
     ∙ sym (ap (λ (x : Stopped). store_due a.number a.kind w (ending_as x)) c.in-AllStored.is)
 
