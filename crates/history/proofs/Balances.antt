@@ -17,7 +17,7 @@ use Rattle.state.specs.declared.Setup.{Setup}
 use Rattle.protocol.specs.Queue.{slot}
 use Rattle.protocol.specs.Connection.{at, role_of, exchanged, far_start, placed}
 use Rattle.protocol.specs.Judge.{Ending, goes_on, ends, Effect, Decision, refuse, violate, accept, continued}
-use Rattle.protocol.specs.Observed.{Event, Sending, silent, sending, Ends, unused, Seen, observe}
+use Rattle.protocol.specs.Observed.{Event, Sending, silent, Ends, unused, Seen, observe}
 use Rattle.protocol.specs.Totals.{Totals, add_up}
 use Rattle.protocol.proofs.Views.{start_told_lem, ends_of, sends_of, Formed}
 use Rattle.protocol.proofs.Legal.{AllLegal}

@@ -9,7 +9,6 @@ use Rattle.laws.specs.Result.{Result, ok, refused, violation}
 use Rattle.laws.proofs.Tests.{true_false}
 use Rattle.wire.specs.declared.Role.{Role}
 use Rattle.wire.specs.declared.Message.{Message}
-use Rattle.wire.specs.declared.Message.TheVariants as msg
 use Rattle.wire.specs.Message.{read_message}
 use Rattle.wire.specs.Connection.{read_connection_header}
 use Rattle.state.specs.declared.Session.{Session}

@@ -15,16 +15,13 @@ use Rattle.wire.specs.Wrong.{MessageFault, no_type, wrong_bit, wrong_sender, wro
 use Rattle.state.specs.declared.Stage.{Stage}
 use Rattle.state.specs.declared.Connection.{Connection}
 use Rattle.state.specs.declared.Session.{Session}
-use Rattle.protocol.specs.Plan.{Plan, settle}
 use Rattle.protocol.specs.Message.{Scope, scope}
 use Rattle.protocol.specs.Connection.{other_end, Cause, shutdown_received, error_received, own_shutdown, line_lost, at, well_formed, ending, ended}
-use Rattle.protocol.specs.Judge.{Report, done, served, header_received, message, Effect, Decision, refuse, violate, accept}
+use Rattle.protocol.specs.Judge.{Report, done, served, header_received, message, Decision, refuse, violate, accept}
 use Rattle.laws.specs.Room.{overlaid}
 use Rattle.protocol.specs.Result.{Given, extent_of}
-use Rattle.history.specs.Log.{Call, start, open_session, put, finish, turn, grant, abort, close, shutdown, lost, receive, room_of, State, Entry}
-use Rattle.history.specs.Log as log
+use Rattle.history.specs.Log.{Call, receive, room_of, State, Entry}
 use Rattle.history.proofs.Decisions.{decide, next_by, out_by, called_is, next_is, out_is}
-use Rattle.protocol.proofs.Plans.{settled, stops_all, takes_all}
 use Rattle.history.specs.Faults.{RuleFault, wrong_state, above_ration, past_largest, unasked_ack, ReceiveFault, header_wrong, message_wrong, rule_broken}
 use Rattle.history.specs.Claims.{takes_input, SameButOutcome, OnlyOver, error_bytes, RefusedLeaves}
 use Rattle.history.proofs.Violations.{broken_bytes}

@@ -28,7 +28,7 @@ use Rattle.state.specs.declared.Ping.{Ping}
 use Rattle.state.specs.declared.Ping.TheVariants as ping
 use Rattle.protocol.specs.Queue.{slot}
 use Rattle.protocol.specs.Message.{ConnectionMessage, whole, scope}
-use Rattle.protocol.specs.Connection.{own_shutdown, line_lost, at, role_of, exchanged, far_number, far_start, placed, ending}
+use Rattle.protocol.specs.Connection.{own_shutdown, line_lost, at, role_of, exchanged, far_number, far_start, placed}
 use Rattle.protocol.specs.Judge.{Report, done, Output, header_out, sent, Ending, goes_on, ends, Effect, accept, commit}
 use Rattle.protocol.specs.Call.{start_rule, ping_rule, shutdown_rule, lost_rule, is_fresh}
 use Rattle.protocol.specs.Result.{bytes_of_all}

@@ -12,7 +12,6 @@ use Rattle.laws.proofs.Tests.{not_true, not_false}
 use Rattle.ration.specs.Ration.{from_header}
 use Rattle.wire.specs.declared.Role.{Role}
 use Rattle.wire.specs.declared.Message.{Message}
-use Rattle.wire.specs.declared.Message.TheVariants as msg
 use Rattle.wire.specs.Message.{read_message}
 use Rattle.wire.proofs.Bounds.{Sent, message_sent}
 use Rattle.state.specs.declared.Stage.{Stage}

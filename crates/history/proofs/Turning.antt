@@ -34,7 +34,6 @@ use Rattle.protocol.proofs.Plans.{stops, passes}
 use Rattle.protocol.proofs.Views.{look, sends_of, due_length_lem}
 use Rattle.protocol.proofs.Turns.{smaller_waiting, turn_sends, turn_stops, turn_goes}
 use Rattle.history.specs.Log.{Call, State, next, out}
-use Rattle.history.specs.Claims
 use Rattle.history.specs.Claims.{data_written, last_of, waiting_bytes}
 use Rattle.history.proofs.Good.{Ok, holds, ready_at}
 use Rattle.history.proofs.Simulation.{ok_formed, next_ok}

@@ -11,7 +11,6 @@ use Rattle.protocol.specs.Message.{no_operation_of, shutdown_of, error_of, ping_
 use Rattle.protocol.specs.Judge.{Report, done, served, header_received, message, Output, header_out, sent}
 use Rattle.protocol.specs.Observed.{no_header, both_headers, start_told, no_ping, Event, received, wrote, silent, unused, Seen, observe}
 use Rattle.history.specs.Log.{Call, Entry}
-use Rattle.history.specs.Log as log
 use Rattle.history.specs.Meaning.{Line, line_over, with_greeting, with_pinging, only, meaning}
 use Rattle.history.specs.Written.{all_written}
 

@@ -7,7 +7,6 @@ use Prim.Native.Nat.{ℕ, ◌≤◌, ◌<◌}
 use lib.Dec.{eqb}
 use Rattle.laws.specs.Pick.{pick}
 use Rattle.laws.specs.Runs.{fold, gather}
-use Rattle.laws.proofs.Pick.{no}
 use Rattle.laws.proofs.Tests.{true_false}
 use Rattle.ration.specs.declared.Ration.{Ration}
 use Rattle.ration.specs.Ration.{from_header}
@@ -15,7 +14,7 @@ use Rattle.state.specs.declared.Side.TheVariants as side
 use Rattle.state.specs.declared.Sides.{Sides}
 use Rattle.state.specs.declared.Sides.TheVariants as sides
 use Rattle.state.specs.declared.Setup.{Setup}
-use Rattle.protocol.specs.Observed.{Event, Sending, sending, sends_after, Seen, observe}
+use Rattle.protocol.specs.Observed.{Event, Sending, sends_after, Seen, observe}
 use Rattle.protocol.specs.Held.{sends_of}
 use Rattle.protocol.specs.Asked.{is_unsent}
 use Rattle.protocol.specs.Fate.{Fate, no_fate, running, complete, may_be_retried, must_not_be_retried}

@@ -5,7 +5,7 @@ use mathlib.Core.List.{List}
 use Prim.Native.Nat.{ℕ, suc, ◌-◌, ◌*◌, ◌≤◌, ◌<◌}
 use native.Mathlib.Omega.{arith}
 use lib.ListN.{length}
-use Rattle.laws.specs.Runs.{run, times}
+use Rattle.laws.specs.Runs.{times}
 use Rattle.state.specs.declared.Setup.{Setup}
 use Rattle.history.specs.Log.{Call, Entry, next, out, Proper}
 use Rattle.history.specs.Log as log
@@ -14,7 +14,7 @@ use Rattle.journal_rules.specs.Region.{block_at, good, entries_of, repaired}
 use Rattle.journal_rules.specs.Calls.{repair_call}
 use Rattle.journal_rules.proofs.Histories.{reads, repair_keeps, full_good}
 use Rattle.journal_history.specs.Keep.{KeepEnding, all_stored, cut_off, refused_with, Keeping, keep_all}
-use Rattle.journal_history.specs.Use.{Program, calls, kept_after, after_step}
+use Rattle.journal_history.specs.Use.{Program, kept_after, after_step}
 use Rattle.journal_history.specs.Sessions.{kinds_for, SessionList, Tracked}
 use Rattle.journal_history.specs.Claims.{openings, CallEnds, OtherSteps}
 use Rattle.journal_history.proofs.Ends.{Stage, goes, is_cut, is_full, Done, numbers_do, stopped_stays}

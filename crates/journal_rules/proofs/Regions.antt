@@ -10,7 +10,6 @@ use lib.Dec.{eqb, leb, ltb}
 use lib.ListN.{length, get_or, replicate, get_or-replicate}
 use lib.Seq.{paste, length-paste}
 use Rattle.laws.specs.Pick.{pick}
-use Rattle.laws.specs.Result.{refused}
 use Rattle.laws.proofs.Pick.{yes, no}
 use Rattle.laws.proofs.Tests.{and_first, and_second, and_both, not_true, true_false}
 use Rattle.journal_rules.specs.Block.{JournalEntry, block_of}

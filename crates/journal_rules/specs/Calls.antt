@@ -1,5 +1,5 @@
 -- What the calls of the journal answer: a value or the number of a refusal.
-use Rattle.std.specs.Prelude.{ℕ, suc, ◌-◌, not, List, [], ◌++◌, map, leb, eqb, length, replicate}
+use Rattle.std.specs.Prelude.{ℕ, suc, ◌-◌, List, [], ◌++◌, map, leb, eqb, length, replicate}
 use Rattle.laws.specs.Pick.{pick}
 use Rattle.laws.specs.Result.{Result, ok, refused}
 use Rattle.journal_rules.specs.Block.{JournalEntry}

@@ -1,13 +1,11 @@
 -- What a store and a repair answer and leave: refused, written whole, or cut.
 use mathlib.Core.Path.{◌≡◌, refl, sym, ap, ap₂, ◌∙◌}
 use mathlib.Core.Bool.{true, false}
-use mathlib.Core.Logic.{◌⊎◌, ⊎_elim}
 use mathlib.Core.List.{List}
 use Prim.Native.Nat.{ℕ, suc, ◌+◌, ◌*◌, ◌≤◌, ◌<◌, min}
 use native.Mathlib.Omega.{arith}
 use native.Mathlib.Numerals.{add-one}
 use borrow.Author.Tests.{eq-eqb, ne_eqb, eqb-true, eqb-false, le-leb, lt-leb}
-use denote.Enum.Declared.{tag_of}
 use lib.Dec.{eqb, leb}
 use lib.ListN.{length, replicate}
 use lib.Seq.{paste}
@@ -21,7 +19,6 @@ use Rattle.journal_rules.proofs.Regions.{sized_bounds, first_bad_lem, refused_8,
 use Rattle.journal_region.specs.declared.Search.{Search}
 use Rattle.journal_region.specs.declared.Search.TheVariants as search
 use Rattle.journal_region.specs.Search.{search_as, searched}
-use Rattle.journal_region.specs.contracts.Search.{the_type}
 use Rattle.journal_region.proofs.Found.{TellsBad, tells_wrong, tells_bad, tells_good}
 use Rattle.journal_store.specs.Answers.{is_sized}
 

@@ -16,7 +16,6 @@ use Rattle.wire.specs.declared.Role.{Role}
 use Rattle.wire.specs.Message.{is_client, only_if}
 use Rattle.state.specs.declared.Side.{Side}
 use Rattle.state.specs.declared.Side.TheVariants as side
-use Rattle.state.specs.declared.Before.TheVariants as before
 use Rattle.state.specs.declared.Sides.{Sides}
 use Rattle.state.specs.declared.Sides.TheVariants as sides
 use Rattle.state.specs.declared.Session.{Session}

@@ -3,7 +3,6 @@ use Rattle.std.specs.Prelude.{ℕ, ◌+◌, ◌-◌, Bool, List, [], ◌∷◌, 
 use Rattle.laws.specs.Result.{Result, ok, refused, violation}
 use Rattle.laws.specs.Room.{overlaid}
 use Rattle.refusal.specs.Number.{refusal_number, fault_as}
-use Rattle.wire.specs.declared.Message.{Message}
 use Rattle.wire.specs.Message as wire
 use Rattle.wire.specs.Message.{body_length}
 use Rattle.wire.specs.Connection.{connection_header}

@@ -5,15 +5,14 @@ use mathlib.Core.List.{List, [], ◌∷◌, ◌++◌}
 use Prim.Native.Nat.{ℕ, ◌≤◌, ◌<◌, ◌+◌}
 use native.Mathlib.Omega.{arith}
 use lib.ListN.{length, drop}
-use Rattle.laws.specs.Result.{fault, ok, refused, violation}
+use Rattle.laws.specs.Result.{fault, refused}
 use Rattle.ration.specs.declared.Ration.TheVariants as ration
-use Rattle.wire.specs.declared.Message.TheVariants as msg
 use Rattle.state.specs.declared.Side.TheVariants as side
 use Rattle.protocol.specs.Connection.{at, well_formed}
 use Rattle.protocol.specs.Queue.{slot}
 use Rattle.protocol.specs.Slot.{turn_room}
 use Rattle.protocol.specs.Fate.{fate_of, must_not_be_retried}
-use Rattle.protocol.specs.Judge.{done, served, message, sent}
+use Rattle.protocol.specs.Judge.{served}
 use Rattle.protocol.specs.Observed.{sending}
 use Rattle.history.specs.Log.{Call, open_session, put, finish, turn, ping, lost, receive, State, Entry, next, out, called, log, run, Proper}
 use Rattle.history.specs.Held.{account_of}
@@ -28,7 +27,7 @@ use Rattle.history.proofs.Rooms.{room_behind}
 use Rattle.history.proofs.Serving.{slots_served, state_told}
 use Rattle.history.proofs.Outcomes.{fates_told}
 use Rattle.history.proofs.Counting.{ration_ledger, put_stream}
-use Rattle.runs.proofs.Played.{played, client, server, zeros, queue, starts, receives, turns, taken, took}
+use Rattle.runs.proofs.Played.{played, client, server, zeros, queue, starts, receives, turns, taken}
 
 abbrev abc : List ℕ
 abc = 0x61 ∷ 0x62 ∷ 0x63 ∷ []

@@ -1,7 +1,7 @@
 -- What the readers find is exactly what is wrong with a header: the byte at the place of a 21 or 22 is wrong by the layout, and every byte
 -- before it is as the layout fixes it. From the order of the rows, which is that of their bytes.
 use mathlib.Core.Path.{◌≡◌, refl, sym, ap, ◌∙◌, subst}
-use mathlib.Core.Bool.{Bool, true, false, not, ◌&&◌, ◌||◌}
+use mathlib.Core.Bool.{Bool, true, false, ◌&&◌}
 use mathlib.Core.List.{List, [], ◌∷◌}
 use Prim.Native.Nat.{ℕ, ◌+◌, ◌<◌, ◌≤◌}
 use native.Mathlib.Omega.{arith}

@@ -1,6 +1,6 @@
 -- Each way through the checks of a header is what the definitions say of its four bytes.
 use mathlib.Core.Path.{◌≡◌, refl, ap, sym, ◌∙◌}
-use mathlib.Core.Bool.{Bool, true, false, not, ◌&&◌}
+use mathlib.Core.Bool.{Bool, true, false, ◌&&◌}
 use mathlib.Core.List.{List, [], ◌∷◌}
 use Prim.Native.Nat.{ℕ, ◌*◌, ◌+◌, ◌/◌, ◌%◌, ◌<◌, ◌≤◌}
 use native.Mathlib.Omega.{arith}
@@ -9,7 +9,6 @@ use borrow.Author.Tests.{ltb-true, eq-eqb, ne_eqb, le-leb, lt-leb}
 use Rattle.laws.specs.Pick.{pick}
 use Rattle.laws.specs.Result.{fault, Result, ok, refused, violation}
 use Rattle.laws.proofs.Pick.{yes, no}
-use Rattle.laws.proofs.Tests.{not_true, not_false}
 use Rattle.wire.specs.declared.Role.{Role}
 use Rattle.wire.specs.declared.Kind.{Kind}
 use Rattle.wire.specs.declared.Kind.TheVariants as kind
@@ -18,7 +17,7 @@ use Rattle.wire.specs.declared.Message.{Message}
 use Rattle.wire.specs.declared.Message.TheVariants.{IncrementRation, Abort, Close, Acknowledgment, Data}
 use Rattle.wire.specs.FirstByte.{kind_of}
 use Rattle.wire.specs.Layout.{layout, fixed, message}
-use Rattle.wire.specs.Message.{may_send, flags_allowed, allowed, body_length, with_body, parse_header}
+use Rattle.wire.specs.Message.{may_send, flags_allowed, allowed, body_length, with_body}
 use Rattle.wire.proofs.Tables.{clear, wrong_place, decoded, fixed_clear, place_is, message_decoded}
 use Rattle.wire.proofs.Reading.{allowed_ok, allowed_flags, allowed_sender, header_clear, header_reserved}
 use Rattle.wire_read.specs.Answer.{with_size, header_read}

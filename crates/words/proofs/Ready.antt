@@ -8,7 +8,7 @@ use borrow.Author.Tests.{ne_eqb, lt-ltb, le-ltb, ltb-true, ltb-false, eqb-true}
 use Rattle.laws.specs.Pick.{pick}
 use Rattle.protocol.specs.Ask.{positive, due, ready_in, ready_session}
 use Rattle.state.specs.declared.Session.{Session}
-use Rattle.words.specs.Session.{endless_number, outcome_cases, side_cases, ended_from, open_from, opening_from, finish_from, waiting_from, ration_in, phase_of, resting_sides, session_of, ready_words}
+use Rattle.words.specs.Session.{endless_number, session_parts, none_held, outcome_cases, side_cases, ended_from, open_from, opening_from, finish_from, waiting_from, ration_in, phase_of, resting_sides, session_of, ready_words}
 use Rattle.words.proofs.Sessions.{by_test}
 
 resting_unready : (x : Session) (z : ℕ) → ready_in x (resting_sides z) ≡ false
@@ -66,7 +66,7 @@ unfolding ready_session ready_words session_of phase_of pick
 ready_words_lem a b s =
     by_test (ltb (s / outcome_cases) open_from)
     (λ t. let l = ltb-true (s / outcome_cases) open_from t in
-    rw (t, lt-ltb s finish_from (omega arith)) (resting_unready _ (s / outcome_cases)))
+    rw (t, lt-ltb s finish_from (omega arith)) (resting_unready (session_parts a b (s % outcome_cases) (none_held (s / outcome_cases))) (s / outcome_cases)))
     (λ f. let l = ltb-false (s / outcome_cases) open_from f in rw f
     (by_test (ltb (s / outcome_cases) opening_from)
     (λ t. let h = ltb-true (s / outcome_cases) opening_from t in

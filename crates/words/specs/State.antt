@@ -28,8 +28,8 @@ stage_at = head_at
 abbrev pub over_at : ℕ
 over_at = head_at + 1
 
-abbrev pub field_own : ℕ
-field_own = head_at + 2
+abbrev pub own_at : ℕ
+own_at = head_at + 2
 
 abbrev pub last_at : ℕ
 last_at = head_at + 3
@@ -108,7 +108,7 @@ abbrev pub head_fits : ℕ → ℕ → ℕ → ℕ → List ℕ → Bool
 head_fits st over own p spare = ltb st stage_cases && ltb over 2 && ltb own numbers16 && ltb p ping_cases && all_zero spare
 
 unfoldable pub head_in_range : List ℕ → Bool
-head_in_range w = head_fits (get_or w stage_at 0) (get_or w over_at 0) (get_or w field_own 0) (get_or w ping_at 0) (drop spare_at w)
+head_in_range w = head_fits (get_or w stage_at 0) (get_or w over_at 0) (get_or w own_at 0) (get_or w ping_at 0) (drop spare_at w)
 
 -- the connection of any words: a head that no connection has is read as one with a number above 127 served last, which is not well formed
 unfoldable pub connection_of : List ℕ → Connection
@@ -117,7 +117,7 @@ connection_of w =
       sessions = sessions_of w;
       stage = stage_of (get_or w stage_at 0);
       over = eqb (get_or w over_at 0) 1;
-      own = get_or w field_own 0;
+      own = get_or w own_at 0;
       last = pick (head_in_range w) (get_or w last_at 0) 128;
       ping = ping_in (get_or w ping_at 0);
     }

@@ -29,11 +29,11 @@ loop-k-preserved c =
     let k : ℕ = c.loop-k.k in
     let from : ℕ → Bool = λ i. is_answered a.number (entries_in (a.count - i) i a.region.now) in
     let further : from (k + 1) ≡ from k =
-        elim c.if-other-number.branch [
-          then-other-number+else-kind-eq0+else-kind-le2 w ↦
-              answered_later a.region.now a.count k a.number c.loop-k-test.true w.if-other-number.true w.if-kind-eq0.false w.if-kind-le2.false
-          | else-other-number w ↦ answered_other a.region.now a.count k a.number c.loop-k-test.true w.if-other-number.false
-        ] in
+    elim c.if-other-number.branch [
+      | then-other-number+else-kind-eq0+else-kind-le2 w ↦
+          answered_later a.region.now a.count k a.number c.loop-k-test.true w.if-other-number.true w.if-kind-eq0.false w.if-kind-le2.false
+      | else-other-number w ↦ answered_other a.region.now a.count k a.number c.loop-k-test.true w.if-other-number.false
+    ] in
     (omega arith, omega arith, further ∙ c.loop-k.invariant.2)
 
 pub returns : goal.returns

@@ -2,7 +2,6 @@
 use mathlib.Core.Path.{sym, ap, ◌∙◌}
 use native.Mathlib.Omega.{arith}
 use lib.ListN.{length}
-use Rattle.laws.proofs.Tests.{not_true, not_false}
 use Rattle.journal_rules.specs.Block.{journal_entry}
 use Rattle.journal_rules.proofs.Blocks.{length_block}
 use Rattle.journal_region.specs.Search.{search_as}
