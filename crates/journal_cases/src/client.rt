@@ -2,6 +2,7 @@
 use crate::show;
 use engine::{Called, Connection, QUEUE_SIZE, Role, SLOT_SIZE, Setup};
 use journal_keep::{Starts, keep, keep_some};
+use std::io;
 use text_line::first;
 
 // The room that turn needs; no other call needs more.
@@ -15,7 +16,7 @@ pub(crate) struct Client {
 }
 
 // A call of the engine: what is received is the server's header, or a message of four bytes by its first byte and its session.
-#[derive(Drop)]
+#[derive(Clone, Copy)]
 pub(crate) enum Ask {
     Start,
     ReceiveHeader,
@@ -74,12 +75,13 @@ fn store_due(
 
 // Makes a call, stores what is due after it, and only then sends what it wrote, or withholds it.
 fn step_with(
+    rt: &impl Print,
     client: Client,
     ask: Ask,
     power: Power,
     region: &mut [u8],
     queue: &mut [u8; QUEUE_SIZE],
-) -> Client {
+) -> io::Result<Client> {
     let mut room = [0u8; ROOM_SIZE];
     let c = client.connection;
     let called = call(c, ask, queue, &mut room);
@@ -87,34 +89,40 @@ fn step_with(
     let before = client.starts;
     let starts = store_due(region, before, called, written, power);
     let stopped = starts.stopped;
-    show::called(ask, called, stopped, written);
+    show::called(rt, ask, called, stopped, written)?;
     let connection = called.connection;
-    Client { connection, starts }
+    Ok(Client { connection, starts })
 }
 
 // A step while power lasts.
 pub(crate) fn step(
+    rt: &impl Print,
     client: Client,
     ask: Ask,
     region: &mut [u8],
     queue: &mut [u8; QUEUE_SIZE],
-) -> Client {
-    step_with(client, ask, Power::Lasts, region, queue)
+) -> io::Result<Client> {
+    step_with(rt, client, ask, Power::Lasts, region, queue)
 }
 
 // A step whose keep is cut after this many byte stores.
 pub(crate) fn step_cut(
+    rt: &impl Print,
     client: Client,
     ask: Ask,
     stores: usize,
     region: &mut [u8],
     queue: &mut [u8; QUEUE_SIZE],
-) -> Client {
-    step_with(client, ask, Power::CutAfter(stores), region, queue)
+) -> io::Result<Client> {
+    step_with(rt, client, ask, Power::CutAfter(stores), region, queue)
 }
 
 // A new connection, for which no start is stored, with its headers exchanged.
-pub(crate) fn connect(region: &mut [u8], queue: &mut [u8; QUEUE_SIZE]) -> Client {
+pub(crate) fn connect(
+    rt: &impl Print,
+    region: &mut [u8],
+    queue: &mut [u8; QUEUE_SIZE],
+) -> io::Result<Client> {
     let connection = Connection::new(Setup {
         role: Role::Client,
         header: 4,
@@ -123,6 +131,6 @@ pub(crate) fn connect(region: &mut [u8], queue: &mut [u8; QUEUE_SIZE]) -> Client
         connection,
         starts: Starts::new(),
     };
-    let started = step(fresh, Ask::Start, region, queue);
-    step(started, Ask::ReceiveHeader, region, queue)
+    let started = step(rt, fresh, Ask::Start, region, queue)?;
+    step(rt, started, Ask::ReceiveHeader, region, queue)
 }

@@ -9,51 +9,65 @@ mod play;
 mod reason;
 mod show;
 
-use libc::{STDERR_FILENO, STDOUT_FILENO};
 use play::Play;
+use std::env::FillError;
+use std::io;
+use std::io::Read;
+use std::rt::Env;
+
+const USAGE: &str = "usage: journal_play < SCRIPT (docs/JOURNAL.md describes scripts)";
 
 // One line of the script, or one read of more of it.
-fn step(play: Play, input: &mut [u8], region: &mut [u8]) -> Play {
-    let place = input::next(play.place, input);
-    play::line(play.at(place), input::line(input, place), region)
+fn step(
+    rt: &(impl Print + Eprint),
+    stdin: &mut impl Read,
+    play: Play,
+    input: &mut [u8],
+    region: &mut [u8],
+) -> io::Result<Play> {
+    let place = input::next(stdin, play.place, input)?;
+    play::line(rt, play.at(place), input::line(input, place), region)
 }
 
-// The loop counts its turns down from a number that no run uses up, since nothing says that the input ends.
-fn run_all(input: &mut [u8], region: &mut [u8]) {
+// The loop counts its turns up to a number that no run uses up, since nothing says that the input ends.
+fn run_all(
+    rt: &(impl Print + Eprint),
+    stdin: &mut impl Read,
+    input: &mut [u8],
+    region: &mut [u8],
+) -> io::Result<()> {
     let mut play = Play::new();
-    let mut turns = u64::MAX;
-    while turns > 0 && play.goes_on() {
-        play = step(play, input, region);
-        turns -= 1;
+    for _ in 0..u64::MAX {
+        if !play.goes_on() {
+            break;
+        }
+        play = step(rt, stdin, play, input, region)?;
     }
+    Ok(())
 }
 
 // Prints the usage line: on standard output for `--help`, on standard error for any other argument.
-fn usage() {
-    let mut word = [0u8; 7];
-    let n = os::arg(1, &mut word);
-    let out = if check::same(&word[..n], b"--help") {
-        STDOUT_FILENO
+fn usage(rt: &(impl Print + Eprint), word: &[u8]) -> io::Result<()> {
+    if check::same(word, b"--help") {
+        rt.println(USAGE)
     } else {
-        STDERR_FILENO
-    };
-    io::write_all(
-        out,
-        b"usage: journal_play < SCRIPT (docs/JOURNAL.md describes scripts)\n",
-    );
+        rt.eprintln(USAGE)
+    }
 }
 
 // The longest right line that is not skipped, a store with its number of byte stores, has 17 bytes.
-fn play_input() {
+fn play_input(rt: &(impl Print + Eprint), stdin: &mut impl Read) -> io::Result<()> {
     let mut input = [0u8; 4096];
     let mut region = [0u8; 70000];
-    run_all(&mut input, &mut region);
+    run_all(rt, stdin, &mut input, &mut region)
 }
 
-fn main() {
-    if 1 < os::arg_count() {
-        usage();
-    } else {
-        play_input();
+// The first seven bytes of an argument are enough to tell whether it is `--help`.
+fn main(rt: HostRuntime) -> io::Result<()> {
+    let mut word = [0u8; 7];
+    match rt.arg(1, &mut word) {
+        Ok(n) => usage(&rt, &word[..n]),
+        Err(FillError::TooLong) => usage(&rt, b""),
+        Err(FillError::NotPresent) => play_input(&rt, &mut rt.stdin()),
     }
 }

@@ -1,39 +1,45 @@
 // Why a line is a script error, for standard error.
-use libc::STDERR_FILENO;
 use script_words::{head, is};
+use std::io;
 
-fn words(s: &[u8]) {
-    io::write_all(STDERR_FILENO, s);
+fn words(rt: &impl Eprint, s: &str) -> io::Result<()> {
+    rt.eprint(s)
 }
 
 // Prints the form of a line that begins with this name.
-fn form(name: &[u8]) {
+fn form(rt: &impl Eprint, name: &[u8]) -> io::Result<()> {
     if is(name, b"store") {
-        words(b"expected store ID KIND [STORES], ID and KIND at most 255, STORES at most 999");
+        words(
+            rt,
+            "expected store ID KIND [STORES], ID and KIND at most 255, STORES at most 999",
+        )
     } else if is(name, b"repair") {
-        words(b"expected repair [STORES], STORES at most 999");
+        words(rt, "expected repair [STORES], STORES at most 999")
     } else if is(name, b"read") {
-        words(b"expected read alone");
+        words(rt, "expected read alone")
     } else if is(name, b"list") {
-        words(b"expected list alone");
+        words(rt, "expected list alone")
     } else if is(name, b"damage") {
-        words(b"expected damage PLACE BYTE, PLACE below LENGTH, BYTE at most 255");
+        words(
+            rt,
+            "expected damage PLACE BYTE, PLACE below LENGTH, BYTE at most 255",
+        )
     } else if is(name, b"block") {
-        words(b"expected block N, N of at most 9 digits");
+        words(rt, "expected block N, N of at most 9 digits")
     } else {
-        words(b"no call has this name");
+        words(rt, "no call has this name")
     }
 }
 
 // Prints the reason of a script error, with the number of its line: the first line of a script names the region.
-pub(crate) fn tell(line: &[u8], number: u64, first: bool) {
-    words(b"line ");
-    io::print_decimal(STDERR_FILENO, number);
-    words(b": ");
+pub(crate) fn tell(rt: &impl Eprint, line: &[u8], number: u64, first: bool) -> io::Result<()> {
+    words(rt, "line ")?;
+    rt.eprint(number)?;
+    words(rt, ": ")?;
     if first {
-        words(b"expected region LENGTH, LENGTH at most 70000");
+        words(rt, "expected region LENGTH, LENGTH at most 70000")?;
     } else {
-        form(head(line));
+        form(rt, head(line))?;
     }
-    words(b"\n");
+    words(rt, "\n")
 }

@@ -1,11 +1,12 @@
 // Standard input, read line by line through a buffer.
-ghost use Rattle.std.specs.Prelude.{◌+◌, ◌≤◌, length};
+ghost use Rattle.std.specs.Prelude.{◌+◌, ◌≤◌, length, IfOk};
 
-use libc::STDIN_FILENO;
+use std::io;
+use std::io::Read;
 
 // The part of the buffer that is not used yet, the line in front of it, the number of lines begun, whether that part starts
 // inside a line whose start is gone, whether the input has ended, and whether there is more to do.
-#[derive(Drop)]
+#[derive(Clone, Copy)]
 pub(crate) struct Place {
     pub from: usize,
     pub to: usize,
@@ -112,52 +113,51 @@ fn shift(s: &mut [u8], from: usize, n: usize)
 }
 
 // One read, and the number of bytes that it gave.
-fn read_once(s: &mut [u8]) -> usize {
-    let got = libc::read(STDIN_FILENO, s);
-    io::count(got, s)
+fn read_once(stdin: &mut impl Read, s: &mut [u8]) -> io::Result<usize> {
+    stdin.read(s)
 }
 
-fn read_at(s: &mut [u8], at: usize) -> usize
+fn read_at(stdin: &mut impl Read, s: &mut [u8], at: usize) -> io::Result<usize>
     requires { at ≤ length s.old }
-    ensures { at + result ≤ length s.old }
+    ensures { IfOk result (λ n. at + n ≤ length s.old) }
 {
     let most = s.len() - at;
-    let got = read_once(&mut s[at..]);
-    if got < most { got } else { most }
+    let got = read_once(stdin, &mut s[at..])?;
+    Ok(if got < most { got } else { most })
 }
 
 // The place after a read behind the n bytes that are kept.
-fn after_read(place: Place, input: &mut [u8], n: usize) -> Place
+fn after_read(stdin: &mut impl Read, place: Place, input: &mut [u8], n: usize) -> io::Result<Place>
     requires { n ≤ length input.old }
 {
-    let got = read_at(input, n);
+    let got = read_at(stdin, input, n)?;
     let mut next = place;
     next.from = 0;
     next.to = n + got;
     next.start = 0;
     next.end = 0;
     next.ended = got == 0;
-    next
+    Ok(next)
 }
 
 // Moves what is not used yet to the start of the buffer, and reads more behind it.
-fn read_more(place: Place, input: &mut [u8]) -> Place {
+fn read_more(stdin: &mut impl Read, place: Place, input: &mut [u8]) -> io::Result<Place> {
     let from = place.from;
     let to = place.to;
     if from <= to {
         if to <= input.len() {
             shift(input, from, to - from);
-            return after_read(place, input, to - from);
+            return after_read(stdin, place, input, to - from);
         }
     }
-    place.stopped()
+    Ok(place.stopped())
 }
 
 // The place behind the next line, or the place after a read if that line is not all there yet.
-pub(crate) fn next(place: Place, input: &mut [u8]) -> Place {
+pub(crate) fn next(stdin: &mut impl Read, place: Place, input: &mut [u8]) -> io::Result<Place> {
     let end = line_end(input, place);
     if place.is_whole(end, input.len()) {
-        return place.behind(end);
+        return Ok(place.behind(end));
     }
-    read_more(place, input)
+    read_more(stdin, place, input)
 }

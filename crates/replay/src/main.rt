@@ -9,52 +9,68 @@ mod play;
 mod reason;
 mod show;
 
-use libc::{STDERR_FILENO, STDOUT_FILENO};
 use play::Play;
+use std::env::FillError;
+use std::io;
+use std::io::Read;
+use std::rt::Env;
+
+const USAGE: &str = "usage: replay < SCRIPT (docs/SCRIPTS.md describes scripts)";
 
 // One line of the script, or one read of more of it.
-fn step(play: Play, input: &mut [u8], queue: &mut [u8], room: &mut [u8]) -> Play {
-    let place = input::next(play.place, input);
-    play::line(play.at(place), input::line(input, place), queue, room)
+fn step(
+    rt: &(impl Print + Eprint),
+    stdin: &mut impl Read,
+    play: Play,
+    input: &mut [u8],
+    queue: &mut [u8],
+    room: &mut [u8],
+) -> io::Result<Play> {
+    let place = input::next(stdin, play.place, input)?;
+    play::line(rt, play.at(place), input::line(input, place), queue, room)
 }
 
-// The loop counts its turns down from a number that no run uses up, since nothing says that the input ends.
-fn run_all(input: &mut [u8], queue: &mut [u8], room: &mut [u8]) {
+// The loop counts its turns up to a number that no run uses up, since nothing says that the input ends.
+fn run_all(
+    rt: &(impl Print + Eprint),
+    stdin: &mut impl Read,
+    input: &mut [u8],
+    queue: &mut [u8],
+    room: &mut [u8],
+) -> io::Result<()> {
     let mut play = Play::new();
-    let mut turns = u64::MAX;
-    while turns > 0 && play.goes_on() {
-        play = step(play, input, queue, room);
-        turns -= 1;
+    for _ in 0..u64::MAX {
+        if !play.goes_on() {
+            break;
+        }
+        play = step(rt, stdin, play, input, queue, room)?;
     }
+    Ok(())
 }
 
 // Prints the usage line: on standard output for `--help`, on standard error for any other argument.
-fn usage() {
-    let mut word = [0u8; 7];
-    let n = os::arg(1, &mut word);
-    let out = if check::same(&word[..n], b"--help") {
-        STDOUT_FILENO
+fn usage(rt: &(impl Print + Eprint), word: &[u8]) -> io::Result<()> {
+    if check::same(word, b"--help") {
+        rt.println(USAGE)
     } else {
-        STDERR_FILENO
-    };
-    io::write_all(
-        out,
-        b"usage: replay < SCRIPT (docs/SCRIPTS.md describes scripts)\n",
-    );
+        rt.eprintln(USAGE)
+    }
 }
 
 // The longest right line, a receive of 66,000 bytes with its room, has 132,014 bytes.
-fn play_input() {
+fn play_input(rt: &(impl Print + Eprint), stdin: &mut impl Read) -> io::Result<()> {
     let mut input = [0u8; 262144];
     let mut queue = [0xddu8; 70000];
     let mut room = [0u8; 66000];
-    run_all(&mut input, &mut queue, &mut room);
+    run_all(rt, stdin, &mut input, &mut queue, &mut room)
 }
 
-fn main() {
-    if 1 < os::arg_count() {
-        usage();
-    } else {
-        play_input();
+// The first seven bytes of an argument are enough to tell whether it is `--help`.
+fn main(rt: HostRuntime) -> io::Result<()> {
+    let mut word = [0u8; 7];
+    match rt.arg(1, &mut word) {
+        Ok(n) => usage(&rt, &word[..n]),
+        Err(FillError::TooLong) => usage(&rt, b""),
+        Err(FillError::NotPresent) => play_input(&rt, &mut rt.stdin()),
     }
 }

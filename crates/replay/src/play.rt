@@ -3,6 +3,7 @@ use crate::input::Place;
 use crate::{reason, show};
 use engine::{Called, Connection, Role, Setup};
 use script_lines::{Beginning, Call, Command};
+use std::io;
 use text_line::first;
 
 // The byte that fills the room before each call.
@@ -45,25 +46,25 @@ impl Play {
         self
     }
 
-    pub(crate) fn goes_on(self) -> bool {
+    pub(crate) fn goes_on(&self) -> bool {
         let place = self.place;
         place.going
     }
 
     // Stops the run at a line that the format does not have.
-    fn stopped_by_error(self, line: &[u8]) -> Play {
+    fn stopped_by_error(self, rt: &(impl Print + Eprint), line: &[u8]) -> io::Result<Play> {
         let place = self.place;
-        show::script_error(place.line);
-        reason::tell(line, place.line, !self.made);
-        self.at(place.stopped())
+        show::script_error(rt, place.line)?;
+        reason::tell(rt, line, place.line, !self.made)?;
+        Ok(self.at(place.stopped()))
     }
 }
 
-fn begin(play: Play, line: &[u8]) -> Play {
+fn begin(rt: &(impl Print + Eprint), play: Play, line: &[u8]) -> io::Result<Play> {
     let beginning = script_lines::begin(line);
     match beginning {
-        Beginning::Made(role, header, queue) => play.begun(Setup { role, header }, queue),
-        Beginning::Wrong => play.stopped_by_error(line),
+        Beginning::Made(role, header, queue) => Ok(play.begun(Setup { role, header }, queue)),
+        Beginning::Wrong => play.stopped_by_error(rt, line),
     }
 }
 
@@ -98,59 +99,79 @@ fn call(c: Connection, call: Call, line: &[u8], queue: &mut [u8], room: &mut [u8
 }
 
 // Prints the line of a call.
-fn tell(line: &[u8], called: Called, room: &[u8]) {
+fn tell(rt: &impl Print, line: &[u8], called: Called, room: &[u8]) -> io::Result<()> {
     let spoiled = !engine_marks::is_filled(room, called.wrote, MARK);
-    show::called(line, called, room, spoiled);
+    show::called(rt, line, called, room, spoiled)
 }
 
 // Makes the call in the room that it is lent.
-fn in_room(mut play: Play, asked: Call, line: &[u8], queue: &mut [u8], room: &mut [u8]) -> Play {
+fn in_room(
+    rt: &impl Print,
+    mut play: Play,
+    asked: Call,
+    line: &[u8],
+    queue: &mut [u8],
+    room: &mut [u8],
+) -> io::Result<Play> {
     engine_marks::fill(room, MARK);
     let c = play.connection;
     let called = call(c, asked, line, queue, room);
-    tell(line, called, room);
+    tell(rt, line, called, room)?;
     let connection = called.connection;
     play.connection = connection;
-    play
+    Ok(play)
 }
 
 // Makes the call with the queue at its length and the first n bytes of the room.
 fn with_room(
+    rt: &(impl Print + Eprint),
     play: Play,
     asked: Call,
     line: &[u8],
     queue: &mut [u8],
     room: &mut [u8],
     n: usize,
-) -> Play {
+) -> io::Result<Play> {
     let k = play.queue;
     if k <= queue.len() {
         if n <= room.len() {
-            return in_room(play, asked, line, &mut queue[..k], &mut room[..n]);
+            return in_room(rt, play, asked, line, &mut queue[..k], &mut room[..n]);
         }
     }
-    play.stopped_by_error(line)
+    play.stopped_by_error(rt, line)
 }
 
 // Plays a line after the first: it makes a call, or prints the current state or a slot of the queue.
-fn made_line(play: Play, line: &[u8], queue: &mut [u8], room: &mut [u8]) -> Play {
+fn made_line(
+    rt: &(impl Print + Eprint),
+    play: Play,
+    line: &[u8],
+    queue: &mut [u8],
+    room: &mut [u8],
+) -> io::Result<Play> {
     let asked = script_lines::command_of(line);
     match asked {
-        Command::Call(asked, n) => return with_room(play, asked, line, queue, room, n),
-        Command::State => show::state(play.connection),
-        Command::Queue(n) => show::slot(first(queue, play.queue), n),
-        Command::Wrong => return play.stopped_by_error(line),
+        Command::Call(asked, n) => return with_room(rt, play, asked, line, queue, room, n),
+        Command::State => show::state(rt, play.connection)?,
+        Command::Queue(n) => show::slot(rt, first(queue, play.queue), n)?,
+        Command::Wrong => return play.stopped_by_error(rt, line),
     }
-    play
+    Ok(play)
 }
 
 // Plays a line: it may be skipped, make the connection or ask for something.
-pub(crate) fn line(play: Play, line: &[u8], queue: &mut [u8], room: &mut [u8]) -> Play {
+pub(crate) fn line(
+    rt: &(impl Print + Eprint),
+    play: Play,
+    line: &[u8],
+    queue: &mut [u8],
+    room: &mut [u8],
+) -> io::Result<Play> {
     if script_words::is_skipped(line) {
-        return play;
+        return Ok(play);
     }
     if play.made {
-        return made_line(play, line, queue, room);
+        return made_line(rt, play, line, queue, room);
     }
-    begin(play, line)
+    begin(rt, play, line)
 }
