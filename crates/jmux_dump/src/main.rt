@@ -74,7 +74,8 @@ fn put_message(rt: &impl Print, place: usize, m: Message) -> io::Result<bool> {
 
 // Prints the line of a refusal, after which reading stops.
 fn put_refusal(rt: &impl Print, place: usize, number: u8) -> io::Result<bool> {
-    put(rt,
+    put(
+        rt,
         at(place)
             .text(b" refused ")
             .number(number as u64)
