@@ -142,18 +142,26 @@ fn is_more(stdin: &mut impl Read) -> io::Result<bool> {
     Ok(read_full(stdin, &mut byte)? == 1)
 }
 
+// Reads a capture into a buffer, and prints what it holds.
+fn dump(
+    rt: &(impl Print + Eprint),
+    stdin: &mut impl Read,
+    bytes: &mut [u8; 524288],
+    from: Role,
+) -> io::Result<()> {
+    let n = read_full(stdin, bytes)?;
+    if is_more(stdin)? {
+        return rt.eprintln("the capture is longer than 524288 bytes");
+    }
+    let capture = text_line::first(bytes, n);
+    put_length(rt, capture)?;
+    put_header(rt, capture)?;
+    put_messages(rt, capture, from)
+}
+
 fn main(rt: HostRuntime) -> io::Result<()> {
     let Sender::Known(from) = argument(&rt) else {
         return rt.eprintln("usage: jmux_dump client|server < CAPTURE");
     };
-    let mut stdin = rt.stdin();
-    let mut bytes = [0u8; 524288];
-    let n = read_full(&mut stdin, &mut bytes)?;
-    if is_more(&mut stdin)? {
-        return rt.eprintln("the capture is longer than 524288 bytes");
-    }
-    let capture = text_line::first(&bytes, n);
-    put_length(&rt, capture)?;
-    put_header(&rt, capture)?;
-    put_messages(&rt, capture, from)
+    dump(&rt, &mut rt.stdin(), &mut [0u8; 524288], from)
 }
