@@ -7,7 +7,9 @@
 
 use capture_rules::Next;
 use capture_step::next_at;
-use libc::{STDERR_FILENO, STDOUT_FILENO};
+use std::env::FillError;
+use std::io;
+use std::rt::Env;
 use wire::Role;
 
 const ROUNDS: u64 = 100000;
@@ -67,10 +69,9 @@ fn reads(capture: &[u8; CAPTURE_SIZE]) -> u64 {
     scan.taken
 }
 
-fn put(name: &[u8], count: u64) {
-    io::write_all(STDOUT_FILENO, name);
-    io::print_decimal(STDOUT_FILENO, count);
-    io::write_all(STDOUT_FILENO, b"\n");
+fn put(rt: &impl Print, name: &[u8], count: u64) -> io::Result<()> {
+    rt.write_all(name)?;
+    rt.println(count)
 }
 
 // The sum of the bytes.
@@ -89,27 +90,27 @@ fn wide(byte: u8) -> u64 {
 }
 
 // Prints what is in the capture.
-fn left(capture: &[u8; CAPTURE_SIZE]) {
-    put(b"capture ", sum(capture));
+fn left(rt: &impl Print, capture: &[u8; CAPTURE_SIZE]) -> io::Result<()> {
+    put(rt, b"capture ", sum(capture))
 }
 
 // Whether the loop is to run: there is no argument, or it is the loop's name.
-fn is_asked() -> bool {
-    if os::arg_count() < 2 {
-        return true;
-    }
+fn is_asked(rt: &impl Env) -> bool {
     let mut word = [0u8; 16];
-    let n = os::arg(1, &mut word);
-    check::same(&word[..n], b"read")
+    match rt.arg(1, &mut word) {
+        Ok(n) => check::same(&word[..n], b"read"),
+        Err(FillError::NotPresent) => true,
+        Err(FillError::TooLong) => false,
+    }
 }
 
-fn main() {
+fn main(rt: HostRuntime) -> io::Result<()> {
     let mut capture = [0x61u8; CAPTURE_SIZE];
     write_headers(&mut capture);
-    if is_asked() {
-        put(b"read ", reads(&capture));
+    if is_asked(&rt) {
+        put(&rt, b"read ", reads(&capture))?;
     } else {
-        io::write_all(STDERR_FILENO, b"usage: capture_cost [read]\n");
+        rt.eprintln("usage: capture_cost [read]")?;
     }
-    left(&capture);
+    left(&rt, &capture)
 }

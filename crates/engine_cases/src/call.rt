@@ -2,9 +2,10 @@
 use crate::show;
 use crate::show::item;
 use engine::{Called, Connection};
+use std::io;
 
 // A call with its numbers; the bytes of a put or a receive are passed beside it.
-#[derive(Drop)]
+#[derive(Clone, Copy)]
 pub(crate) enum Call {
     Start,
     Open(u8),
@@ -62,25 +63,26 @@ pub(crate) fn word_of(call: Call) -> u8 {
     }
 }
 
-fn number(n: u64) {
-    item(show::SPACE, n);
+fn number(rt: &impl Print, n: u64) -> io::Result<()> {
+    item(rt, show::SPACE, n)
 }
 
 // Prints the numbers of a call.
-pub(crate) fn items(call: Call) {
+pub(crate) fn items(rt: &impl Print, call: Call) -> io::Result<()> {
     match call {
-        Call::Open(n) | Call::Put(n) | Call::Finish(n) | Call::Close(n) => number(n as u64),
+        Call::Open(n) | Call::Put(n) | Call::Finish(n) | Call::Close(n) => number(rt, n as u64),
         Call::Grant(n, amount) => {
-            number(n as u64);
-            number(amount as u64);
+            number(rt, n as u64)?;
+            number(rt, amount as u64)
         }
         Call::Abort(n, partial) => {
-            number(n as u64);
+            number(rt, n as u64)?;
             if partial {
-                show::say(show::PARTIAL);
+                show::say(rt, show::PARTIAL)?;
             }
+            Ok(())
         }
-        Call::Ping(cookie) => number(cookie as u64),
-        Call::Start | Call::Turn | Call::Shutdown | Call::Lost | Call::Receive => {}
+        Call::Ping(cookie) => number(rt, cookie as u64),
+        Call::Start | Call::Turn | Call::Shutdown | Call::Lost | Call::Receive => Ok(()),
     }
 }

@@ -6,6 +6,7 @@ use crate::{call, show};
 use connection::{role_of, session_at};
 use engine::{Answer, Called, Connection, QUEUE_SIZE, SLOT_SIZE};
 use engine_marks::is_filled;
+use std::io;
 use text_line::{Line, first};
 use text_state::answered;
 
@@ -26,121 +27,122 @@ pub(crate) fn on_bench(connection: Connection) -> Bench {
     }
 }
 
-fn answer(a: Answer, used: usize) {
-    say(show::COLON);
+fn answer(rt: &impl Print, a: Answer, used: usize) -> io::Result<()> {
+    say(rt, show::COLON)?;
     let line = answered(Line::new(), a, used);
     let bytes = line.bytes;
-    show::text(first(&bytes, line.length));
+    show::text(rt, first(&bytes, line.length))
 }
 
 // Prints the bytes used, where the words of the answer do not include them.
-fn used_beside(a: Answer, used: usize) {
+fn used_beside(rt: &impl Print, a: Answer, used: usize) -> io::Result<()> {
     match a {
         Answer::Header(_) | Answer::Message { .. } => {}
         Answer::Done | Answer::Served(_) | Answer::Refused(_) | Answer::Violated(_) => {
             if 0 < used {
-                item(show::USED, used as u64);
+                item(rt, show::USED, used as u64)?;
             }
         }
     }
+    Ok(())
 }
 
 // Prints the payload among the bytes received.
-fn payload(bytes: &[u8], start: usize, end: usize) {
+fn payload(rt: &impl Print, bytes: &[u8], start: usize, end: usize) -> io::Result<()> {
     if start < end {
-        say(show::PAYLOAD);
-        show::part(bytes, start, end);
+        say(rt, show::PAYLOAD)?;
+        show::part(rt, bytes, start, end)?;
     }
+    Ok(())
 }
 
 // Prints the bytes written and the one behind them, and a complaint if any byte behind them is not as lent.
-fn written(wrote: usize, room: &[u8]) {
+fn written(rt: &impl Print, wrote: usize, room: &[u8]) -> io::Result<()> {
     if 0 < wrote {
-        say(show::WROTE);
-        show::part(room, 0, wrote);
-        say(show::THEN);
-        show::bytes(first(show::rest(room, wrote), 1));
+        say(rt, show::WROTE)?;
+        show::part(rt, room, 0, wrote)?;
+        say(rt, show::THEN)?;
+        show::bytes(rt, first(show::rest(room, wrote), 1))?;
     }
     if !is_filled(room, wrote, 0xEE) {
-        say(show::SPOILED);
+        say(rt, show::SPOILED)?;
     }
+    Ok(())
 }
 
 // Prints what a call gives beside the state.
-fn outcome(called: Called, bytes: &[u8], room: &[u8]) {
+fn outcome(rt: &impl Print, called: Called, bytes: &[u8], room: &[u8]) -> io::Result<()> {
     let a = called.answer;
-    answer(a, called.used);
-    used_beside(a, called.used);
-    payload(bytes, called.start, called.end);
-    written(called.wrote, room);
+    answer(rt, a, called.used)?;
+    used_beside(rt, a, called.used)?;
+    payload(rt, bytes, called.start, called.end)?;
+    written(rt, called.wrote, room)
 }
 
-fn changed(before: Bench, after: Bench) {
+fn changed(rt: &impl Print, before: &Bench, after: &Bench) -> io::Result<()> {
     let c = before.connection;
     let d = after.connection;
-    say(change(c, d));
-    let queue = before.queue;
-    let queue_after = after.queue;
-    if check::same(&queue, &queue_after) {
-        say(show::LINE_END);
+    say(rt, change(c, d))?;
+    if check::same(&before.queue, &after.queue) {
+        say(rt, show::LINE_END)
     } else {
-        say(show::QUEUE_CHANGED);
+        say(rt, show::QUEUE_CHANGED)
     }
 }
 
-pub(crate) fn role(c: Connection) {
+pub(crate) fn role(rt: &impl Print, c: Connection) -> io::Result<()> {
     let stage = c.stage;
-    say(role_words(role_of(stage)));
+    say(rt, role_words(role_of(stage)))
 }
 
 // Prints the end, and the call with its numbers and bytes.
-fn question(c: Connection, asked: Call, bytes: &[u8]) {
-    role(c);
-    say(call::word_of(asked));
-    call::items(asked);
+fn question(rt: &impl Print, c: Connection, asked: Call, bytes: &[u8]) -> io::Result<()> {
+    role(rt, c)?;
+    say(rt, call::word_of(asked))?;
+    call::items(rt, asked)?;
     if 0 < bytes.len() {
-        say(show::SPACE);
-        show::bytes(bytes);
+        say(rt, show::SPACE)?;
+        show::bytes(rt, bytes)?;
     }
+    Ok(())
 }
 
 // Makes one call, with the bytes of a put or a receive.
-pub(crate) fn line(b: Bench, asked: Call, bytes: &[u8]) -> Bench {
+pub(crate) fn line(rt: &impl Print, b: Bench, asked: Call, bytes: &[u8]) -> io::Result<Bench> {
     let c = b.connection;
     let mut queue = b.queue;
     let mut room = [0xEEu8; ROOM_SIZE];
-    question(c, asked, bytes);
+    question(rt, c, asked, bytes)?;
     let called = call::ask(c, asked, bytes, &mut queue, &mut room);
-    outcome(called, bytes, &room);
+    outcome(rt, called, bytes, &room)?;
     let connection = called.connection;
     let after = Bench { connection, queue };
-    changed(b, after);
-    after
+    changed(rt, &b, &after)?;
+    Ok(after)
 }
 
 // Prints the sizes of a slot and of the queue.
-pub(crate) fn sizes() {
-    item(show::SLOT, SLOT_SIZE as u64);
-    item(show::QUEUE, QUEUE_SIZE as u64);
-    say(show::LINE_END);
+pub(crate) fn sizes(rt: &impl Print) -> io::Result<()> {
+    item(rt, show::SLOT, SLOT_SIZE as u64)?;
+    item(rt, show::QUEUE, QUEUE_SIZE as u64)?;
+    say(rt, show::LINE_END)
 }
 
 // Prints the first bytes of slot 5 with the one before them, and its last byte with the one behind it.
-pub(crate) fn slot_5(b: Bench) {
-    let queue = b.queue;
+pub(crate) fn slot_5(rt: &impl Print, b: &Bench) -> io::Result<()> {
     let start = 5 * (SLOT_SIZE as usize);
     let end = start + (SLOT_SIZE as usize);
-    say(show::SLOT_5);
-    show::part(&queue, start - 1, start + 4);
-    say(show::DOTS);
-    show::part(&queue, end - 1, end + 1);
-    say(show::LINE_END);
+    say(rt, show::SLOT_5)?;
+    show::part(rt, &b.queue, start - 1, start + 4)?;
+    say(rt, show::DOTS)?;
+    show::part(rt, &b.queue, end - 1, end + 1)?;
+    say(rt, show::LINE_END)
 }
 
-pub(crate) fn fate(b: Bench, n: u8) {
+pub(crate) fn fate(rt: &impl Print, b: &Bench, n: u8) -> io::Result<()> {
     let c = b.connection;
     let x = session_at(c, n);
     let outcome = x.outcome;
-    item(show::FATE_OF, n as u64);
-    say(fate_words(outcome));
+    item(rt, show::FATE_OF, n as u64)?;
+    say(rt, fate_words(outcome))
 }

@@ -15,9 +15,11 @@ mod rows;
 mod show;
 mod tables;
 
-fn main() {
+use std::io;
+
+fn main(rt: HostRuntime) -> io::Result<()> {
     let mut input = [0u8; 16384];
-    let n = io::read_full(libc::STDIN_FILENO, &mut input);
-    lines::sizes();
-    tables::put_all(text_line::first(&input, n));
+    let n = input_bytes::read_full(&mut rt.stdin(), &mut input)?;
+    lines::sizes(&rt)?;
+    tables::put_all(&rt, text_line::first(&input, n))
 }

@@ -7,6 +7,7 @@ use crate::show::{item, say};
 use crate::{call, show};
 use engine::{Answer, Connection, QUEUE_SIZE, Role, SLOT_SIZE};
 use engine_marks::is_filled;
+use std::io;
 
 // The longest queue and the longest room that a row lends.
 const LONGEST_QUEUE: usize = QUEUE_SIZE + 1;
@@ -14,7 +15,7 @@ const LONGEST_QUEUE: usize = QUEUE_SIZE + 1;
 const LONGEST_ROOM: usize = 4 + (SLOT_SIZE as usize);
 
 // The session number that the calls name, and how many bytes of room and queue are lent: a letter each.
-#[derive(Drop)]
+#[derive(Clone, Copy)]
 struct Lent {
     number: u8,
     room: usize,
@@ -47,18 +48,18 @@ fn prefix(s: &mut [u8], n: usize) -> &mut [u8] {
 }
 
 // Prints a call's word with ok or the number of its refusal.
-fn tell(asked: Call, refusal: u8) {
-    say(show::SPACE);
-    say(call::word_of(asked));
+fn tell(rt: &impl Print, asked: Call, refusal: u8) -> io::Result<()> {
+    say(rt, show::SPACE)?;
+    say(rt, call::word_of(asked))?;
     if refusal == 0 {
-        say(show::ROW_TAKEN);
+        say(rt, show::ROW_TAKEN)
     } else {
-        item(show::SPACE, refusal as u64);
+        item(rt, show::SPACE, refusal as u64)
     }
 }
 
 // Makes a call on buffers of its own, and returns whether a refusal left the state and each byte as they were.
-fn attempt(c: Connection, asked: Call, lent: Lent) -> bool {
+fn attempt(rt: &impl Print, c: Connection, asked: Call, lent: Lent) -> io::Result<bool> {
     let mut queue = [0xDDu8; LONGEST_QUEUE];
     let mut room = [0xEEu8; LONGEST_ROOM];
     let called = call::ask(
@@ -71,37 +72,39 @@ fn attempt(c: Connection, asked: Call, lent: Lent) -> bool {
     let answered = called.answer;
     let after = called.connection;
     let refusal = refusal_in(answered);
-    tell(asked, refusal);
+    tell(rt, asked, refusal)?;
     let as_lent = is_filled(&queue, 0, 0xDD) & is_filled(&room, 0, 0xEE);
-    (refusal == 0) | (as_lent & (change(c, after) == show::SAME))
+    Ok((refusal == 0) | (as_lent & (change(c, after) == show::SAME)))
 }
 
 // Makes each call, always on the state given.
-fn attempts(c: Connection, lent: Lent) -> bool {
+fn attempts(rt: &impl Print, c: Connection, lent: Lent) -> io::Result<bool> {
     let n = lent.number;
-    attempt(c, Call::Start, lent)
-        & attempt(c, Call::Open(n), lent)
-        & attempt(c, Call::Put(n), lent)
-        & attempt(c, Call::Finish(n), lent)
-        & attempt(c, Call::Turn, lent)
-        & attempt(c, Call::Grant(n, 1), lent)
-        & attempt(c, Call::Abort(n, false), lent)
-        & attempt(c, Call::Close(n), lent)
-        & attempt(c, Call::Ping(7), lent)
-        & attempt(c, Call::Shutdown, lent)
-        & attempt(c, Call::Lost, lent)
-        & attempt(c, Call::Receive, lent)
+    Ok(
+        attempt(rt, c, Call::Start, lent)?
+            & attempt(rt, c, Call::Open(n), lent)?
+            & attempt(rt, c, Call::Put(n), lent)?
+            & attempt(rt, c, Call::Finish(n), lent)?
+            & attempt(rt, c, Call::Turn, lent)?
+            & attempt(rt, c, Call::Grant(n, 1), lent)?
+            & attempt(rt, c, Call::Abort(n, false), lent)?
+            & attempt(rt, c, Call::Close(n), lent)?
+            & attempt(rt, c, Call::Ping(7), lent)?
+            & attempt(rt, c, Call::Shutdown, lent)?
+            & attempt(rt, c, Call::Lost, lent)?
+            & attempt(rt, c, Call::Receive, lent)?,
+    )
 }
 
 // A row of an end: after the code of its state the letters for what is lent, and the label.
-pub(crate) fn row(end: Role, text: &[u8]) {
+pub(crate) fn row(rt: &impl Print, end: Role, text: &[u8]) -> io::Result<()> {
     let c = state_of(end, text);
-    role(c);
-    show::text(show::rest(text, 14));
-    say(show::COLON);
-    if attempts(c, lent_of(text)) {
-        say(show::ROW_SAME);
+    role(rt, c)?;
+    show::text(rt, show::rest(text, 14))?;
+    say(rt, show::COLON)?;
+    if attempts(rt, c, lent_of(text))? {
+        say(rt, show::ROW_SAME)
     } else {
-        say(show::ROW_SPOILED);
+        say(rt, show::ROW_SPOILED)
     }
 }

@@ -1,6 +1,5 @@
 // Words, numbers and bytes on standard output.
-use crate::codes::letter;
-use libc::STDOUT_FILENO;
+use std::io;
 use text_line::first;
 
 // The words by their numbers: those of the calls first.
@@ -68,8 +67,8 @@ pub(crate) const SLOT: u8 = 42;
 
 pub(crate) const QUEUE: u8 = 43;
 
-pub(crate) fn text(words: &[u8]) {
-    io::write_all(STDOUT_FILENO, words);
+pub(crate) fn text(rt: &impl Print, words: &[u8]) -> io::Result<()> {
+    rt.write_all(words)
 }
 
 // Where a byte is first found from a place on, or the end.
@@ -115,42 +114,41 @@ fn place(words: &[u8], number: u8) -> usize {
 }
 
 // Prints the words of a number.
-pub(crate) fn say(number: u8) {
+pub(crate) fn say(rt: &impl Print, number: u8) -> io::Result<()> {
     let words =
         b"start/open/put/finish/turn/grant/abort/close/ping/shutdown/lost/receive/client /server /\
         , same/, over/, changed/: none\n/: running\n/: complete\n/: may be retried\n/: must not be retried\n/ /, /\n/\
         , queue changed\n/ used / payload / wrote / then / spoiled/\
         slot 5: / .. /fate of / partial/:/ ok/; same\n/; spoiled\n/..(/ bytes)/wrong line\n/slot /, queue /";
-    text(until(words, place(words, number), b'/'));
+    text(rt, until(words, place(words, number), b'/'))
 }
 
 // Prints words and a number behind them.
-pub(crate) fn item(words: u8, number: u64) {
-    say(words);
-    io::print_decimal(STDOUT_FILENO, number);
+pub(crate) fn item(rt: &impl Print, words: u8, number: u64) -> io::Result<()> {
+    say(rt, words)?;
+    rt.print(number)
 }
 
-fn digits(s: &[u8]) {
-    let mut i = 0;
-    while i < s.len() {
-        io::print_hex(STDOUT_FILENO, letter(s, i) as u64, 2);
-        i += 1;
+fn digits(rt: &impl Print, s: &[u8]) -> io::Result<()> {
+    for byte in s {
+        print!(rt; "{byte:02x}")?;
     }
+    Ok(())
 }
 
 // Prints each byte as two hexadecimal digits; of more than 16 bytes the first eight and the count.
-pub(crate) fn bytes(s: &[u8]) {
+pub(crate) fn bytes(rt: &impl Print, s: &[u8]) -> io::Result<()> {
     let n = s.len();
     if 16 < n {
-        digits(first(s, 8));
-        item(COUNT_OF, n as u64);
-        say(BYTES);
+        digits(rt, first(s, 8))?;
+        item(rt, COUNT_OF, n as u64)?;
+        say(rt, BYTES)
     } else {
-        digits(s);
+        digits(rt, s)
     }
 }
 
 // Prints the bytes from one place up to another.
-pub(crate) fn part(s: &[u8], start: usize, end: usize) {
-    bytes(rest(first(s, end), start));
+pub(crate) fn part(rt: &impl Print, s: &[u8], start: usize, end: usize) -> io::Result<()> {
+    bytes(rt, rest(first(s, end), start))
 }

@@ -6,6 +6,7 @@ use crate::rows::row;
 use crate::show;
 use crate::show::{find, rest};
 use engine::{Connection, Role, SLOT_SIZE};
+use std::io;
 
 // The most bytes that a line names: a byte more than a slot.
 const MOST_BYTES: usize = 1 + (SLOT_SIZE as usize);
@@ -22,14 +23,15 @@ fn bytes_of(s: &[u8]) -> [u8; MOST_BYTES] {
 }
 
 // A row for a client, for a server, or for both.
-fn put_row(text: &[u8]) {
+fn put_row(rt: &impl Print, text: &[u8]) -> io::Result<()> {
     let end = letter(text, 0);
     if end != b's' {
-        row(Role::Client, text);
+        row(rt, Role::Client, text)?;
     }
     if end != b'c' {
-        row(Role::Server, text);
+        row(rt, Role::Server, text)?;
     }
+    Ok(())
 }
 
 // The end that a code names.
@@ -50,25 +52,38 @@ fn count_of(digits: &[u8], amount: u32) -> usize {
 }
 
 // Makes a call with the bytes that digits name, as many as `count_of` says.
-fn put_call(b: Bench, asked: Call, digits: &[u8], amount: u32) -> Bench {
+fn put_call(
+    rt: &impl Print,
+    b: Bench,
+    asked: Call,
+    digits: &[u8],
+    amount: u32,
+) -> io::Result<Bench> {
     let bytes = bytes_of(digits);
-    line(b, asked, text_line::first(&bytes, count_of(digits, amount)))
+    line(
+        rt,
+        b,
+        asked,
+        text_line::first(&bytes, count_of(digits, amount)),
+    )
 }
 
 // The label behind the digits, where there is one.
-fn label(digits: &[u8]) {
+fn label(rt: &impl Print, digits: &[u8]) -> io::Result<()> {
     let at = show::behind(digits, 0, b' ');
     if at < digits.len() {
-        show::text(rest(digits, at));
-        show::say(show::COMMA);
+        show::text(rt, rest(digits, at))?;
+        show::say(rt, show::COMMA)?;
     }
+    Ok(())
 }
 
 // A line of a receipt: after the code the bytes received, and a label.
-fn put_receipt(text: &[u8]) {
+fn put_receipt(rt: &impl Print, text: &[u8]) -> io::Result<()> {
     let digits = rest(text, 10);
-    label(digits);
-    put_call(on_bench(end_of(text)), Call::Receive, digits, 0);
+    label(rt, digits)?;
+    put_call(rt, on_bench(end_of(text)), Call::Receive, digits, 0)?;
+    Ok(())
 }
 
 // What a line of a run asks: a new end, a look at a slot or a fate, a call, or nothing known.
@@ -105,45 +120,44 @@ fn run_line_of(text: &[u8]) -> RunLine {
     }
 }
 
-fn run_line(b: Bench, text: &[u8]) -> Bench {
+fn run_line(rt: &impl Print, b: Bench, text: &[u8]) -> io::Result<Bench> {
     let digits = rest(text, 4);
     let asked = run_line_of(text);
     match asked {
-        RunLine::End => return on_bench(end_of(digits)),
-        RunLine::Slot => slot_5(b),
-        RunLine::Fate(n) => fate(b, n),
-        RunLine::Call(asked) => return put_call(b, asked, digits, number_of(letter(text, 2))),
-        RunLine::Wrong => show::say(show::WRONG),
+        RunLine::End => return Ok(on_bench(end_of(digits))),
+        RunLine::Slot => slot_5(rt, &b)?,
+        RunLine::Fate(n) => fate(rt, &b, n)?,
+        RunLine::Call(asked) => return put_call(rt, b, asked, digits, number_of(letter(text, 2))),
+        RunLine::Wrong => show::say(rt, show::WRONG)?,
     }
-    b
+    Ok(b)
 }
 
 // A line of a table: of a run by a space in the fourth place, of a receipt by one in the tenth, or else a row. A comment
 // and an empty line are skipped.
-fn put(b: Bench, text: &[u8]) -> Bench {
+fn put(rt: &impl Print, b: Bench, text: &[u8]) -> io::Result<Bench> {
     let start = letter(text, 0);
     if (start == b'#') | (start == b' ') {
-        return b;
+        return Ok(b);
     }
     if letter(text, 3) == b' ' {
-        return run_line(b, text);
+        return run_line(rt, b, text);
     }
     if letter(text, 9) == b' ' {
-        put_receipt(text);
+        put_receipt(rt, text)?;
     } else {
-        put_row(text);
+        put_row(rt, text)?;
     }
-    b
+    Ok(b)
 }
 
 // Puts each line of a table.
-pub(crate) fn put_all(table: &[u8]) {
+pub(crate) fn put_all(rt: &impl Print, table: &[u8]) -> io::Result<()> {
     let mut b = on_bench(end_of(b"cf-.000-5"));
     let mut at: usize = 0;
-    let mut turns = table.len();
-    while turns > 0 {
-        b = put(b, show::until(table, at, b'\n'));
+    for _ in 0..table.len() {
+        b = put(rt, b, show::until(table, at, b'\n'))?;
         at = show::behind(table, at, b'\n');
-        turns -= 1;
     }
+    Ok(())
 }

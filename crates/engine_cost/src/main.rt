@@ -8,40 +8,51 @@
 mod rounds;
 
 use engine::QUEUE_SIZE;
-use libc::{STDERR_FILENO, STDOUT_FILENO};
 use rounds::ROOM_SIZE;
+use std::env::FillError;
+use std::io;
+use std::rt::Env;
 
-fn put(name: &[u8], count: u64) {
-    io::write_all(STDOUT_FILENO, name);
-    io::print_decimal(STDOUT_FILENO, count);
-    io::write_all(STDOUT_FILENO, b"\n");
+fn put(rt: &impl Print, name: &[u8], count: u64) -> io::Result<()> {
+    rt.write_all(name)?;
+    rt.println(count)
 }
 
-fn all(queue: &mut [u8; QUEUE_SIZE], room: &mut [u8; ROOM_SIZE]) {
-    put(b"table ", rounds::tables());
-    put(b"wellformed ", rounds::checks());
-    put(b"turn ", rounds::turns(queue, room));
-    put(b"put ", rounds::puts(queue));
-    put(b"receive ", rounds::receipts(room));
+fn all(
+    rt: &impl Print,
+    queue: &mut [u8; QUEUE_SIZE],
+    room: &mut [u8; ROOM_SIZE],
+) -> io::Result<()> {
+    put(rt, b"table ", rounds::tables())?;
+    put(rt, b"wellformed ", rounds::checks())?;
+    put(rt, b"turn ", rounds::turns(queue, room))?;
+    put(rt, b"put ", rounds::puts(queue))?;
+    put(rt, b"receive ", rounds::receipts(room))
+}
+
+fn usage(rt: &impl Eprint) -> io::Result<()> {
+    rt.eprintln("usage: engine_cost [table|wellformed|turn|put|receive]")
 }
 
 // Runs the loop that a word names.
-fn run(word: &[u8], queue: &mut [u8; QUEUE_SIZE], room: &mut [u8; ROOM_SIZE]) {
+fn run(
+    rt: &(impl Print + Eprint),
+    word: &[u8],
+    queue: &mut [u8; QUEUE_SIZE],
+    room: &mut [u8; ROOM_SIZE],
+) -> io::Result<()> {
     if check::same(word, b"table") {
-        put(b"table ", rounds::tables());
+        put(rt, b"table ", rounds::tables())
     } else if check::same(word, b"wellformed") {
-        put(b"wellformed ", rounds::checks());
+        put(rt, b"wellformed ", rounds::checks())
     } else if check::same(word, b"turn") {
-        put(b"turn ", rounds::turns(queue, room));
+        put(rt, b"turn ", rounds::turns(queue, room))
     } else if check::same(word, b"put") {
-        put(b"put ", rounds::puts(queue));
+        put(rt, b"put ", rounds::puts(queue))
     } else if check::same(word, b"receive") {
-        put(b"receive ", rounds::receipts(room));
+        put(rt, b"receive ", rounds::receipts(room))
     } else {
-        io::write_all(
-            STDERR_FILENO,
-            b"usage: engine_cost [table|wellformed|turn|put|receive]\n",
-        );
+        usage(rt)
     }
 }
 
@@ -61,20 +72,19 @@ fn wide(byte: u8) -> u64 {
 }
 
 // Prints what is left in queue and room.
-fn left(queue: &[u8; QUEUE_SIZE], room: &[u8; ROOM_SIZE]) {
-    put(b"queue ", sum(queue));
-    put(b"room ", sum(room));
+fn left(rt: &impl Print, queue: &[u8; QUEUE_SIZE], room: &[u8; ROOM_SIZE]) -> io::Result<()> {
+    put(rt, b"queue ", sum(queue))?;
+    put(rt, b"room ", sum(room))
 }
 
-fn main() {
+fn main(rt: HostRuntime) -> io::Result<()> {
     let mut queue = [0x61u8; QUEUE_SIZE];
     let mut room = [0u8; ROOM_SIZE];
-    if os::arg_count() < 2 {
-        all(&mut queue, &mut room);
-    } else {
-        let mut word = [0u8; 16];
-        let n = os::arg(1, &mut word);
-        run(&word[..n], &mut queue, &mut room);
+    let mut word = [0u8; 16];
+    match rt.arg(1, &mut word) {
+        Ok(n) => run(&rt, &word[..n], &mut queue, &mut room)?,
+        Err(FillError::TooLong) => usage(&rt)?,
+        Err(FillError::NotPresent) => all(&rt, &mut queue, &mut room)?,
     }
-    left(&queue, &room);
+    left(&rt, &queue, &room)
 }

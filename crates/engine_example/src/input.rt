@@ -1,5 +1,6 @@
 // The input that no call has used yet: the first bytes of a buffer.
-use libc::STDIN_FILENO;
+use std::io;
+use std::io::Read;
 
 // As long as the longest message.
 pub(crate) const INPUT_SIZE: usize = 65539;
@@ -19,18 +20,15 @@ pub(crate) fn drop_first(input: &mut [u8; INPUT_SIZE], held: usize, used: usize)
     to
 }
 
-// One read, and the number of bytes that it gave.
-fn read(free: &mut [u8]) -> usize {
-    let got = libc::read(STDIN_FILENO, free);
-    io::count(got, free)
-}
-
-// Reads more behind the bytes held, and returns how many are held then.
-pub(crate) fn read_behind(input: &mut [u8], held: usize) -> usize {
-    let size = input.len();
-    if size <= held {
-        return held;
+// Makes one read behind the bytes held, and returns how many are held then.
+pub(crate) fn read_behind(
+    stdin: &mut impl Read,
+    input: &mut [u8],
+    held: usize,
+) -> io::Result<usize> {
+    if input.len() <= held {
+        return Ok(held);
     }
-    let got = read(&mut input[held..]);
-    if got < size - held { held + got } else { size }
+    let got = stdin.read(&mut input[held..])?;
+    Ok(held + got)
 }

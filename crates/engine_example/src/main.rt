@@ -11,6 +11,8 @@ mod tell;
 use calls::{ROOM_SIZE, send};
 use engine::{Answer, Connection, Outcome, QUEUE_SIZE, Refusal, Role, Setup};
 use input::INPUT_SIZE;
+use std::io;
+use std::rt::Env;
 use text_line::first;
 
 // What is kept between calls beside the buffers: the connection, and how many bytes of input no call has used yet.
@@ -32,59 +34,65 @@ fn lose(end: End) -> End {
 }
 
 // Reads more of the input; where it has ended, the line is lost.
-fn wait(end: End, input: &mut [u8; INPUT_SIZE]) -> End {
-    let held = input::read_behind(input, end.held);
+fn wait(rt: &HostRuntime, end: End, input: &mut [u8; INPUT_SIZE]) -> io::Result<End> {
+    let held = input::read_behind(&mut rt.stdin(), input, end.held)?;
     if held == end.held {
-        return lose(end);
+        return Ok(lose(end));
     }
     let connection = end.connection;
-    End { connection, held }
+    Ok(End { connection, held })
 }
 
 // A refusal of receive: with 10 a header or message is not complete yet. This program meets no other, and would give up.
-fn refused(end: End, refusal: Refusal, input: &mut [u8; INPUT_SIZE]) -> End {
+fn refused(
+    rt: &HostRuntime,
+    end: End,
+    refusal: Refusal,
+    input: &mut [u8; INPUT_SIZE],
+) -> io::Result<End> {
     match refusal {
-        Refusal::Incomplete => wait(end, input),
-        _ => lose(end),
+        Refusal::Incomplete => wait(rt, end, input),
+        _ => Ok(lose(end)),
     }
 }
 
 // Takes one header or message, sends the reply, and does what the program wants to do then.
 fn step(
+    rt: &HostRuntime,
     end: End,
     role: Role,
     input: &mut [u8; INPUT_SIZE],
     queue: &mut [u8; QUEUE_SIZE],
     room: &mut [u8; ROOM_SIZE],
-) -> End {
+) -> io::Result<End> {
     let c = end.connection;
     let called = engine::receive(c, first(input, end.held), room);
     let answer = called.answer;
     if let Answer::Refused(refusal) = answer {
-        return refused(end, refusal, input);
+        return refused(rt, end, refusal, input);
     }
-    send(called, room);
-    tell::received(called, input);
+    send(rt, called, room)?;
+    tell::received(rt, called, input)?;
     let c = called.connection;
     let connection = match answer {
-        Answer::Header(_) => calls::at_header(c, role, queue, room),
-        Answer::Message { message, .. } => calls::at_message(c, role, message, queue, room),
+        Answer::Header(_) => calls::at_header(rt, c, role, queue, room)?,
+        Answer::Message { message, .. } => calls::at_message(rt, c, role, message, queue, room)?,
         _ => c,
     };
     let held = input::drop_first(input, end.held, called.used);
-    End { connection, held }
+    Ok(End { connection, held })
 }
 
 // A new connection. A client sends its header at once; at a server start is refused, and changes nothing.
-fn begin(role: Role, room: &mut [u8; ROOM_SIZE]) -> End {
+fn begin(rt: &HostRuntime, role: Role, room: &mut [u8; ROOM_SIZE]) -> io::Result<End> {
     let c = Connection::new(Setup { role, header: 4 });
     let called = engine::start(c, room);
-    send(called, room);
+    send(rt, called, room)?;
     let connection = called.connection;
-    End {
+    Ok(End {
         connection,
         held: 0,
-    }
+    })
 }
 
 // A connection goes on until it is over, and at a client until the outcome of the request is known.
@@ -99,28 +107,31 @@ fn goes_on(c: Connection) -> bool {
     }
 }
 
-fn run(role: Role) {
+fn run(rt: &HostRuntime, role: Role) -> io::Result<()> {
     let mut input = [0u8; INPUT_SIZE];
     let mut queue = [0u8; QUEUE_SIZE];
     let mut room = [0u8; ROOM_SIZE];
-    let mut end = begin(role, &mut room);
-    let mut left = u64::MAX;
-    while left > 0 && goes_on(end.connection) {
-        end = step(end, role, &mut input, &mut queue, &mut room);
-        left -= 1;
+    let mut end = begin(rt, role, &mut room)?;
+    for _ in 0..u64::MAX {
+        if !goes_on(end.connection) {
+            break;
+        }
+        end = step(rt, end, role, &mut input, &mut queue, &mut room)?;
     }
     let table = end.connection.sessions;
-    tell::session(5, table[5]);
+    tell::session(rt, 5, table[5])
 }
 
-fn main() {
+fn main(rt: HostRuntime) -> io::Result<()> {
     let mut word = [0u8; 7];
-    let n = os::arg(1, &mut word);
+    let Ok(n) = rt.arg(1, &mut word) else {
+        return tell::usage(&rt);
+    };
     if check::same(&word[..n], b"client") {
-        run(Role::Client);
+        run(&rt, Role::Client)
     } else if check::same(&word[..n], b"server") {
-        run(Role::Server);
+        run(&rt, Role::Server)
     } else {
-        tell::usage();
+        tell::usage(&rt)
     }
 }

@@ -10,10 +10,12 @@ mod reads;
 mod show;
 mod writes;
 
-fn main() {
+use std::io;
+
+fn main(rt: HostRuntime) -> io::Result<()> {
     let mut input = [0u8; 16384];
-    let n = io::read_full(libc::STDIN_FILENO, &mut input);
-    reads::all(text_line::first(&input, n));
-    writes::all();
-    rations::all();
+    let n = input_bytes::read_full(&mut rt.stdin(), &mut input)?;
+    reads::all(&rt, text_line::first(&input, n))?;
+    writes::all(&rt)?;
+    rations::all(&rt)
 }

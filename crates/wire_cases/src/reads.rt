@@ -2,23 +2,24 @@
 use crate::show;
 use byte_slices::find;
 use script_words::{Size, from_hex, head, is, tail};
+use std::io;
 use text_line::first;
 use wire::{Message, Role};
 use wire_connection_header::ReadHeader;
 use wire_read::Read;
 
 // Prints a message that was read, and how many bytes of the input it has.
-fn taken(m: Message) {
-    show::text(b": ok ");
-    show::message(m);
-    show::item(b" used ", 4 + (wire_fields::body_length(m) as u64));
+fn taken(rt: &impl Print, m: Message) -> io::Result<()> {
+    show::text(rt, b": ok ")?;
+    show::message(rt, m)?;
+    show::item(rt, b" used ", 4 + (wire_fields::body_length(m) as u64))
 }
 
-fn answer(answer: Read) {
+fn answer(rt: &impl Print, answer: Read) -> io::Result<()> {
     match answer {
-        Read::Message(m) => taken(m),
-        Read::Incomplete => show::refused(10),
-        Read::Violated(fault) => show::violated(fault),
+        Read::Message(m) => taken(rt, m),
+        Read::Incomplete => show::refused(rt, 10),
+        Read::Violated(fault) => show::violated(rt, fault),
     }
 }
 
@@ -48,45 +49,52 @@ fn put_bytes(digits: &[u8], room: &mut [u8]) -> usize {
 }
 
 // Prints what the bytes of a message, behind the name of their sender, are read as.
-fn message(line: &[u8]) {
+fn message(rt: &impl Print, line: &[u8]) -> io::Result<()> {
     let mut bytes = [0u8; 65600];
     let n = put_bytes(tail(line), &mut bytes);
-    answer(wire_read::read_message(role_of(head(line)), first(&bytes, n)));
+    answer(
+        rt,
+        wire_read::read_message(role_of(head(line)), first(&bytes, n)),
+    )
 }
 
-fn header_answer(answer: ReadHeader) {
+fn header_answer(rt: &impl Print, answer: ReadHeader) -> io::Result<()> {
     match answer {
-        ReadHeader::Number(n) => show::item(b": ok ", n as u64),
-        ReadHeader::Incomplete => show::refused(10),
-        ReadHeader::Violated(fault) => show::violated(fault),
+        ReadHeader::Number(n) => show::item(rt, b": ok ", n as u64),
+        ReadHeader::Incomplete => show::refused(rt, 10),
+        ReadHeader::Violated(fault) => show::violated(rt, fault),
     }
 }
 
-fn header(digits: &[u8]) {
+fn header(rt: &impl Print, digits: &[u8]) -> io::Result<()> {
     let mut bytes = [0u8; 16];
     let n = from_hex(digits, &mut bytes);
-    header_answer(wire_connection_header::read_connection_header(first(&bytes, n)));
+    header_answer(
+        rt,
+        wire_connection_header::read_connection_header(first(&bytes, n)),
+    )
 }
 
 // Prints a line of the table, and behind it what its bytes are read as.
-fn line(line: &[u8]) {
+fn line(rt: &impl Print, line: &[u8]) -> io::Result<()> {
     if script_words::is_skipped(line) {
-        return;
+        return Ok(());
     }
-    show::text(line);
+    show::text(rt, line)?;
     if is(head(line), b"header") {
-        header(tail(line));
+        header(rt, tail(line))?;
     } else {
-        message(tail(line));
+        message(rt, tail(line))?;
     }
-    show::end();
+    show::end(rt)
 }
 
-pub(crate) fn all(table: &[u8]) {
+pub(crate) fn all(rt: &impl Print, table: &[u8]) -> io::Result<()> {
     let mut at = 0;
     while at < table.len() {
         let end = find(table, at, table.len(), b'\n');
-        line(&table[at..end]);
+        line(rt, &table[at..end])?;
         at = end + 1;
     }
+    Ok(())
 }
