@@ -1,10 +1,16 @@
 """Tries edits: what `rt check` says of a crate with an edit, in copies of the repository outside of it.
 
-What it said is kept in target/must-fail/CRATE/EDIT.log behind a checksum of all that the try read, and a try of the same is not
-repeated. A copy begins with what earlier checks on this machine kept, so most of a try is loading the libraries."""
+What it said is kept in target/must-fail/CRATE/NAME.log behind a checksum of all that the try read, and a try of the same is not
+repeated. A copy begins with what earlier checks on this machine kept, so most of a try is loading the libraries.
+
+The checker names the places and goals of a function's proof by the words of its conditions, `returns-then-n-lt128` say, so an edit of
+a condition takes names away that the proof file has. Such an edit is tried once more with the new names in the proof file, by the
+order of the places in the code: then a fact refuses it, if there is one, and not a name."""
+import collections
 import concurrent.futures
 import functools
 import hashlib
+import json
 import os
 import pathlib
 import queue
@@ -20,24 +26,21 @@ PARTS = ("src", "specs", "proofs")
 GIGABYTES = 4
 # The statuses of a check that came to an end: proved, not proved, and no verdict for a limit of the prover.
 ENDED = (0, 1, 3)
+NAME_GONE = re.compile(r"^\S*proofs/\S+: error: .*(?:has no field|has no `)", re.M)
+TOKEN = re.compile(r"[^\s(){}\[\],;.\"]+")
+
+# A crate, a name for the log, and what is replaced: of each replacement the file, the old text and the new one.
+Try = collections.namedtuple("Try", "crate name replaced")
 
 
-def replacements(edit):
-    """The replacements of an edit in their order: the file, the old text and the new one."""
-    for line in edit.read_text().splitlines():
-        if line.startswith("file: "):
-            file = line.removeprefix("file: ")
-        elif line.startswith("old: "):
-            old = line.removeprefix("old: ")
-        elif line.startswith("new:"):
-            yield file, old, line.removeprefix("new:").removeprefix(" ")
+# ---- what is tried
 
 
-def edited_texts(edit, crate):
-    """The texts of the files of a crate's folder that an edit changes, as it leaves them."""
+def edited_texts(folder, replaced):
+    """The texts of the files of a crate's folder that a try changes, as it leaves them."""
     texts = {}
-    for file, old, new in replacements(edit):
-        texts[file] = texts.get(file, (crate / file).read_text()).replace(old, new)
+    for file, old, new in replaced:
+        texts[file] = texts.get(file, (folder / file).read_text()).replace(old, new)
     return texts
 
 
@@ -51,6 +54,25 @@ def checksum(root, name):
         for path in sorted(path for part in PARTS for path in (root / "crates" / crate / part).glob("**/*") if path.is_file()):
             made.update(f"{path.relative_to(root)}\n".encode() + path.read_bytes())
     return made.hexdigest()
+
+
+class Log:
+    """What was said when something was tried last, if all that the try reads is as it was."""
+
+    def __init__(self, root, one):
+        self.path = root / "target/must-fail" / one.crate / f"{one.name}.log"
+        self.sum = hashlib.sha256(f"{checksum(root, one.crate)} {one}".encode()).hexdigest()
+
+    def said(self):
+        sum, _, said = self.path.read_text().partition("\n") if self.path.exists() else ("", "", "")
+        return said if sum == self.sum else None
+
+    def keep(self, said):
+        self.path.parent.mkdir(parents=True, exist_ok=True)
+        self.path.write_text(f"{self.sum}\n{said}")
+
+
+# ---- a copy of the repository
 
 
 def copied(root, to):
@@ -70,40 +92,84 @@ def linked(one, other):
     return os.link(one, other) if str(one).endswith(".oantt") else shutil.copy2(one, other)
 
 
-def checked(crate):
+def run(folder, *words):
+    return subprocess.run(
+        ["rt", *words], cwd=folder, stdin=subprocess.DEVNULL, stdout=subprocess.PIPE, stderr=subprocess.STDOUT, text=True, errors="replace"
+    )
+
+
+def checked(folder):
     """The status of a check of the crate in a folder, and what it said; one that is killed, most likely for memory, is made once more."""
-    for _ in range(2):
-        ran = subprocess.run(
-            ["rt", "check", "--jobs", "1"], cwd=crate, stdin=subprocess.DEVNULL, stdout=subprocess.PIPE, stderr=subprocess.STDOUT, text=True, errors="replace"
-        )
-        if ran.returncode in ENDED:
-            break
+    ran = run(folder, "check", "--jobs", "1")
+    ran = ran if ran.returncode in ENDED else run(folder, "check", "--jobs", "1")
     return ran.returncode, ran.stdout
 
 
-def try_edits(crate, edits):
-    """What a check of the crate in a folder says with each edit, if the crate is proved as it is and the check ends."""
-    if checked(crate)[0] != 0:
+def write(folder, texts):
+    for file, text in texts.items():
+        (folder / file).write_text(text)
+
+
+# ---- the names of places and goals
+
+
+def names_in(folder):
+    """The names that the checker makes for the functions of the crate in a folder: by the proof's folder, those of its places, steps,
+    fields and goals, by their order in the code."""
+    with tempfile.TemporaryDirectory() as to:
+        run(folder, "names", f"{to}/made")
+        path = pathlib.Path(to, "made/names.json")
+        listed = json.loads(path.read_text()) if path.exists() else {}
+    found = {}
+    for key, one in listed.items():
+        function = re.fullmatch(r"Rattle-\w+-proofs\.(.*)\.Lts", key)
+        if function:
+            names = {("goal", old): new for old, new in one["needs"]} | {("asked", old): new for old, new in one["asked_at"]}
+            for (place, _, step, _, fields), name in zip(one["places"], one["places_by_name"]):
+                names |= {("place", place): name, ("step", place): step[1]} | {("field", place, old): new for old, new in fields}
+            found["proofs/" + function.group(1).replace(".", "/")] = names
+    return found
+
+
+def renamed(folder, before, after):
+    """The proof files of the crate in a folder whose names are others after an edit than before it, with the new ones."""
+    texts = {}
+    for proof, old in before.items():
+        new = after.get(proof, {})
+        names = {old[key]: new[key] for key in old if old[key] != new.get(key, old[key])}
+        for file in (f"{proof}/Answers.antt", f"{proof}/Invariants.antt") if names else ():
+            if (folder / file).is_file():
+                texts[file] = TOKEN.sub(lambda found: names.get(found.group(), found.group()), (folder / file).read_text())
+    return texts
+
+
+# ---- the tries
+
+
+def try_all(folder, tries):
+    """What a check of the crate in a folder says at each try, if the crate is proved as it is and the check ends."""
+    if checked(folder)[0] != 0:
         return {}
-    kept, seed, logs = crate / "out/incremental", crate.parent.parent / "seed", {}
+    kept, seed, logs, before = folder / "out/incremental", folder.parent.parent / "seed", {}, None
     kept.rename(seed)
-    for edit in edits:
-        texts = edited_texts(edit, crate)
-        were = {file: (crate / file).read_text() for file in texts}
+    for one in tries:
         shutil.copytree(seed, kept, copy_function=linked)
-        write(crate, texts)
-        status, said = checked(crate)
-        write(crate, were)
+        texts = edited_texts(folder, one.replaced)
+        were = {file: (folder / file).read_text() for file in texts}
+        before = before or names_in(folder)
+        write(folder, texts)
+        status, said = checked(folder)
+        if status == 1 and NAME_GONE.search(said):
+            more = renamed(folder, before, names_in(folder))
+            were |= {file: (folder / file).read_text() for file in more}
+            write(folder, more)
+            status, said = checked(folder)
+        write(folder, were)
         shutil.rmtree(kept)
         if status in ENDED:
-            logs[edit] = said
+            logs[one] = said
     seed.rename(kept)
     return logs
-
-
-def write(crate, texts):
-    for file, text in texts.items():
-        (crate / file).write_text(text)
 
 
 def at_once():
@@ -115,35 +181,18 @@ def at_once():
     return max(1, min(len(os.sched_getaffinity(0)), free // GIGABYTES))
 
 
-class Log:
-    """What was said of an edit when it was tried last, if what the try read is as it was."""
-
-    def __init__(self, root, edit):
-        self.crate = edit.parent.parent.name
-        self.path = root / "target/must-fail" / self.crate / f"{edit.stem}.log"
-        self.sum = hashlib.sha256(checksum(root, self.crate).encode() + edit.read_bytes()).hexdigest()
-
-    def said(self):
-        sum, _, said = self.path.read_text().partition("\n") if self.path.exists() else ("", "", "")
-        return said if sum == self.sum else None
-
-    def keep(self, said):
-        self.path.parent.mkdir(parents=True, exist_ok=True)
-        self.path.write_text(f"{self.sum}\n{said}")
-
-
-def tried(root, edits):
-    """What the checks say of edits, by edit, or None; of several crates side by side."""
-    logs, left, copies = {edit: Log(root, edit) for edit in edits}, {}, queue.SimpleQueue()
-    for edit, log in logs.items():
+def tried(root, tries):
+    """What the checks say at each try, or None; of several crates side by side."""
+    logs, left, copies = {one: Log(root, one) for one in tries}, collections.defaultdict(list), queue.SimpleQueue()
+    for one, log in logs.items():
         if log.said() is None:
-            left.setdefault(log.crate, []).append(edit)
+            left[one.crate].append(one)
 
-    def one(name):
+    def work(crate):
         copy = copies.get()
         try:
-            for edit, said in try_edits(copy / "crates" / name, left[name]).items():
-                logs[edit].keep(said)
+            for one, said in try_all(copy / "crates" / crate, left[crate]).items():
+                logs[one].keep(said)
         finally:
             copies.put(copy)
 
@@ -152,5 +201,5 @@ def tried(root, edits):
         for number in range(count if left else 0):
             copies.put(copied(root, pathlib.Path(room) / str(number)))
         with concurrent.futures.ThreadPoolExecutor(count) as pool:
-            list(pool.map(one, sorted(left, key=lambda name: -len(left[name]))))
-    return {edit: log.said() for edit, log in logs.items()}
+            list(pool.map(work, sorted(left, key=lambda name: -len(left[name]))))
+    return {one: log.said() for one, log in logs.items()}
