@@ -8,17 +8,17 @@ import collections
 import re
 
 WORDS = re.compile(r"[\s(){}\[\],;.]+")
-MARKS = r"(?:(?:abbrev|unfoldable|pub) )*"
+MARKS = r"(?:(?:abbrev|unfoldable|opaque|pub) )*"
 TYPE = re.compile(r"\s*" + MARKS + r"(?:record|data) (\S+)")
 SEEN_INSIDE = re.compile(MARKS + r"(?:record|data|module) ")
 SIGNATURE = re.compile(r"\s*" + MARKS + r"((?:[^\s:=(){}]+ )*[^\s:=(){}]+)(?: \{[^}]*\})* :")
-USE = re.compile(r"^((?:pub |ghost )?)use Rattle·(\w+)(?:·\w+)?\.(specs|proofs)\.(\w+)(?:\.\{([^}]*)\}| as ([^\s;]+))?;?$", re.M)
+USE = re.compile(r"^((?:pub |ghost )?)use Rattle\.(\w+)\.(specs|proofs)\.(\w+)(?:\.\{([^}]*)\}| as ([^\s;]+))?;?$", re.M)
 NO_NAMES = {"let", "in", "where", "module", "record", "data"}
 
 
 def spelled(name):
     """A name as it is written where it is used; for an operator, each of its parts."""
-    return [part for part in name.split("_") if part]
+    return [part for part in name.split("◌") if part]
 
 
 def names_at(line):
@@ -46,17 +46,19 @@ def blocks(text):
 
 
 class Declarations:
-    def __init__(self, folder, crate):
-        """The declarations of the crate of a name, whose files are in a folder; fails if a `use` line names none of them."""
+    def __init__(self, folder, crate, changed=()):
+        """The declarations of the crate of a name, whose files are in a folder, where those that have changed have other texts; fails
+        if a `use` line names none of them."""
         self.blocks, self.named, self.cited = {}, {}, {}
         self.used, self.modules = collections.defaultdict(dict), collections.defaultdict(dict)
         texts = {f"{path.parent.name}/{path.name}": path.read_text() for part in ("specs", "proofs") for path in folder.glob(f"{part}/*.antt")}
+        texts |= {file: text for file, text in dict(changed).items() if file in texts}
         for file, text in texts.items():
             self.blocks[file], self.named[file] = blocks(text), collections.defaultdict(set)
             for at, block in enumerate(self.blocks[file]):
                 for part in block["names"]:
                     self.named[file][part].add(at)
-        texts |= {str(path.relative_to(folder)): path.read_text() for path in folder.glob("src/**/*.rt")}
+        texts |= {str(path.relative_to(folder)): path.read_text() for path in folder.glob("src/**/*.rt")} | dict(changed)
         uses = [(file, *use) for file, text in texts.items() for use in USE.findall(text)]
         for file, how, owner, part, module, listed, alias in sorted(uses, key=lambda use: use[1] != "pub "):
             if owner == crate:

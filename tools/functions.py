@@ -15,9 +15,15 @@ def proof_places(file, owner, name):
     module = file.removeprefix("src/").removesuffix(".rt")
     type_folder = f"{owner}/" if owner else ""
     modules = [""] if owner or module in ("lib", "main") else []
-    return tuple(
-        f"proofs/{folder}{type_folder}{mark}{name}/Proof.antt" for folder in (*modules, f"{module}/") for mark in ("", "+")
-    )
+    folders = [f"proofs/{folder}{type_folder}{mark}{name}" for folder in (*modules, f"{module}/") for mark in ("", "+")]
+    return tuple(f"{folder}/{file}.antt" for folder in folders for file in ("Answers", "Invariants", "Proof"))
+
+
+def first_line(lines, start):
+    """The first line of a function, whose attributes are above it."""
+    while start > 0 and lines[start - 1] and not lines[start - 1].endswith(("{", "}", ";")):
+        start -= 1
+    return start
 
 
 def parts(lines, start, indent):
@@ -43,7 +49,7 @@ def functions_in(file, text):
             yield Function(
                 f"{method}::{name}" if method else name,
                 file,
-                range(start + 1, closed + 2),
+                range(first_line(lines, start) + 1, closed + 2),
                 range(clauses + 1, opened + 1),
                 range(opened + 2, closed + 1),
                 "\n".join(lines[clauses:opened]),

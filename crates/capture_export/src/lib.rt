@@ -80,8 +80,7 @@ fn found_in(step: Step) -> Finding
 
 // What is at a place of a capture, in seven words: the number of a refusal or violation, or 0; the place of the byte at fault; the
 // place to read on from; and the message's type, flags or shift, session, and length, cookie or increment.
-#[unsafe(no_mangle)]
-pub extern "C" fn jmux_read_at(capture: &[u8], server: bool, place: usize, found: &mut [u64; 7])
+pub fn jmux_read_at(capture: &[u8], server: bool, place: usize, found: &mut [u64; 7])
     ensures { found.new ≡ step_words (step_at (sender_of server) capture.now place) }
 {
     let there = found_in(read_at(capture, sender(server), place));

@@ -87,8 +87,7 @@ fn tally_all(capture: &[u8], from: Role) -> Tally
 
 // What all messages of a capture come to, up to the first refusal or violation, in five words: its number, the place of its byte at
 // fault, the place in the capture where it is, how many messages are before it, and their sum, each message in one number.
-#[unsafe(no_mangle)]
-pub extern "C" fn jmux_read_all(capture: &[u8], server: bool, found: &mut [u64; 5])
+pub fn jmux_read_all(capture: &[u8], server: bool, found: &mut [u64; 5])
     ensures { found.new ≡ all_words (sender_of server) capture.now }
 {
     let tally = tally_all(capture, sender(server));

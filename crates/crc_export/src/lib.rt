@@ -1,4 +1,4 @@
-// The CRC-32C of a slice of bytes, for programs in C and Rust.
+// The CRC-32C of a slice of bytes, as programs in C and Rust have it.
 #![tactic(auto)]
 
 ghost use Rattle.std.specs.Prelude.{◌≡◌};
@@ -6,8 +6,7 @@ ghost use Rattle.crc.specs.Crc.{crc_of};
 
 use crc::crc32c;
 
-#[unsafe(no_mangle)]
-pub extern "C" fn jmux_crc32c(bytes: &[u8]) -> u32
+pub fn jmux_crc32c(bytes: &[u8]) -> u32
     ensures { result ≡ crc_of bytes.now }
 {
     crc32c(bytes)
