@@ -1,0 +1,19 @@
+-- `make_state` meets its contract: zeros, and the three words that are not zero.
+use mathlib.Core.Path.{◌≡◌, refl}
+use lib.ListN.{set, replicate}
+use Rattle.state.specs.declared.Setup.{Setup}
+use Rattle.state.specs.declared.Stage.TheVariants as stage
+use Rattle.state.specs.New.{fresh}
+use Rattle.words.specs.Session.{status_word}
+use Rattle.words.specs.State.{stage_at, own_at, last_at, word_count, stage_number, words_of}
+use Rattle.words_access.proofs.making.make_state.Goals as goal
+
+-- on zeros these are the words of a connection just made
+made : (s : Setup) → set (set (set (replicate word_count 0) stage_at (stage_number (stage.Fresh s.role))) own_at s.header) last_at 127 ≡ words_of (fresh s)
+unfolding words_of status_word
+made s = refl
+
+pub returns : goal.returns
+returns c =
+    let s = c.args.setup in
+    rw (c.stage_number.ensures, c.clear.ensures) (made s)
