@@ -1,5 +1,5 @@
 // Standard input, read line by line through a buffer.
-ghost use Rattle.std.specs.Prelude.{◌+◌, ◌≤◌, length, IfOk};
+ghost use Rattle.std.specs.Prelude.{◌≡◌, ◌+◌, ◌≤◌, length, take, IfOk};
 
 use std::io;
 use std::io::Read;
@@ -117,9 +117,12 @@ fn read_once(stdin: &mut impl Read, s: &mut [u8]) -> io::Result<usize> {
     stdin.read(s)
 }
 
+// One read behind the first bytes, which stay, as the slice's length does, also where the read fails.
 fn read_at(stdin: &mut impl Read, s: &mut [u8], at: usize) -> io::Result<usize>
     requires { at ≤ length s.old }
-    ensures { IfOk result (λ n. at + n ≤ length s.old) }
+    ensures within { IfOk result (λ n. at + n ≤ length s.old) }
+    ensures sized { length s.new ≡ length s.old }
+    ensures kept { take at s.new ≡ take at s.old }
 {
     let most = s.len() - at;
     let got = read_once(stdin, &mut s[at..])?;
