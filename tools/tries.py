@@ -147,10 +147,10 @@ def renamed(folder, before, after):
 
 
 def try_all(folder, tries):
-    """What a check of the crate in a folder says at each try, if the crate is proved as it is and the check ends."""
+    """What a check of the crate in a folder says at each try, one after another, if the crate is proved as it is and the check ends."""
     if checked(folder)[0] != 0:
-        return {}
-    kept, seed, logs, before = folder / "out/incremental", folder.parent.parent / "seed", {}, None
+        return
+    kept, seed, before = folder / "out/incremental", folder.parent.parent / "seed", None
     kept.rename(seed)
     for one in tries:
         shutil.copytree(seed, kept, copy_function=linked)
@@ -167,9 +167,8 @@ def try_all(folder, tries):
         write(folder, were)
         shutil.rmtree(kept)
         if status in ENDED:
-            logs[one] = said
+            yield one, said
     seed.rename(kept)
-    return logs
 
 
 def at_once():
@@ -191,7 +190,7 @@ def tried(root, tries):
     def work(crate):
         copy = copies.get()
         try:
-            for one, said in try_all(copy / "crates" / crate, left[crate]).items():
+            for one, said in try_all(copy / "crates" / crate, left[crate]):
                 logs[one].keep(said)
         finally:
             copies.put(copy)
