@@ -32,7 +32,7 @@ overflow_add-result c =
     let cause = cause_as c.args.cause in
     let status = c.args.status in
     let outcome_is : c.outcome_number.result ≡ outcome_number (left cause (sides_in (phase_of (status / outcome_cases))) (outcome_of (status % outcome_cases))) =
-        simp (c.outcome_number.ensures.0, c.ended_session-ended.ensures, c.status_session.ensures) in
+    simp (c.outcome_number.ensures.0, c.ended_session-ended.ensures, c.status_session.ensures) in
     by_test (eqb (status % outcome_cases) 0)
     (λ t. let z = outcome_is ∙ none_stays cause (sides_in (phase_of (status / outcome_cases))) (status % outcome_cases) (eqb-true _ _ t) in omega arith)
     (λ f. let d = eqb-false (status % outcome_cases) 0 f in omega (arith, c.outcome_number.ensures.1))
@@ -43,5 +43,5 @@ returns c =
     let cause = cause_as c.args.cause in
     let status = c.args.status in
     let outcome_is : c.outcome_number.result ≡ outcome_number (left cause (sides_in (phase_of (status / outcome_cases))) (outcome_of (status % outcome_cases))) =
-        simp (c.outcome_number.ensures.0, c.ended_session-ended.ensures, c.status_session.ensures) in
+    simp (c.outcome_number.ensures.0, c.ended_session-ended.ensures, c.status_session.ensures) in
     ap (λ (n : ℕ). n + outcome_cases * (status / outcome_cases)) outcome_is
