@@ -1,7 +1,8 @@
 """Tries edits: what `rt check` says of a crate with an edit, in copies of the repository outside of it.
 
-What it said is kept in target/must-fail/CRATE/NAME.log behind a checksum of all that the try read, and a try of the same is not
-repeated. A copy begins with what earlier checks on this machine kept, so most of a try is loading the libraries.
+What it said is kept on this machine, in the user's cache folder, jmux-must-fail/CRATE/NAME.log, behind a checksum of all that the try
+read, and a try of the same is not repeated, also in another clone. A copy begins with what earlier checks on this machine kept, so
+most of a try is loading the libraries.
 
 The checker names the places and goals of a function's proof by the words of its conditions, `returns-then-n-lt128` say, so an edit of
 a condition takes names away that the proof file has. Such an edit is tried once more with the new names in the proof file, by the
@@ -22,6 +23,8 @@ import tempfile
 from crate_list import below, crates
 
 PARTS = ("src", "specs", "proofs")
+# Where what was said is kept.
+KEPT = pathlib.Path(os.environ.get("XDG_CACHE_HOME") or pathlib.Path.home() / ".cache") / "jmux-must-fail"
 # A check takes up to about this much memory.
 GIGABYTES = 4
 # The statuses of a check that came to an end: proved, not proved, and no verdict for a limit of the prover.
@@ -60,7 +63,7 @@ class Log:
     """What was said when something was tried last, if all that the try reads is as it was."""
 
     def __init__(self, root, one):
-        self.path = root / "target/must-fail" / one.crate / f"{one.name}.log"
+        self.path = KEPT / one.crate / f"{one.name}.log"
         self.sum = hashlib.sha256(f"{checksum(root, one.crate)} {one}".encode()).hexdigest()
 
     def said(self):
