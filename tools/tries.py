@@ -23,8 +23,6 @@ import tempfile
 from crate_list import below, crates
 
 PARTS = ("src", "specs", "proofs")
-# Where what was said is kept.
-KEPT = pathlib.Path(os.environ.get("XDG_CACHE_HOME") or pathlib.Path.home() / ".cache") / "jmux-must-fail"
 # A check takes up to about this much memory.
 GIGABYTES = 4
 # The statuses of a check that came to an end: proved, not proved, and no verdict for a limit of the prover.
@@ -37,6 +35,20 @@ Try = collections.namedtuple("Try", "crate name replaced")
 
 
 # ---- what is tried
+
+
+def kept_folder():
+    """Where what was said is kept: the user's cache folder, or one for this run where that cannot be written."""
+    try:
+        folder = pathlib.Path(os.environ.get("XDG_CACHE_HOME") or pathlib.Path.home() / ".cache") / "jmux-must-fail"
+        folder.mkdir(parents=True, exist_ok=True)
+        with tempfile.TemporaryFile(dir=folder):
+            return folder
+    except (OSError, RuntimeError):
+        return pathlib.Path(tempfile.mkdtemp(prefix="jmux-must-fail-"))
+
+
+KEPT = kept_folder()
 
 
 def edited_texts(folder, replaced):
