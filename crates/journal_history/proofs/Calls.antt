@@ -6,7 +6,7 @@ use Prim.Native.Nat.{ℕ, zero, suc, ◌≤◌, ◌<◌}
 use native.Mathlib.Omega.{arith}
 use lib.Dec.{eqb}
 use lib.ListN.{length, take, drop}
-use lib.Seq.{drop_at, take-nil}
+use lib.Seq.{drop_at}
 use Rattle.laws.specs.Pick.{pick}
 use Rattle.laws.specs.Runs.{fold, gather, times}
 use Rattle.laws.proofs.Pick.{yes, no}
@@ -33,9 +33,10 @@ use Rattle.journal_history.specs.Keep.{KeepEnding, all_stored, Keeping, keep_all
 use Rattle.journal_history.specs.Sessions.{kinds_for, begins_session, JournaledSession, journaled_session, is_known, journal_kinds, SessionList, all_sessions, all_past, with_fate, with_kinds, added_kinds}
 use Rattle.journal_history.proofs.Growth.{times_snoc}
 use Rattle.journal_history.proofs.Keeps.{Stands, Left, left_stored, left_due, Done, keep_does}
-use Rattle.journal_history.proofs.Telling.{has_fate, fate_by, sent_stays, known_stays, fate_stays, Renewed, by_open, by_data, renewed}
-use Rattle.journal_history.proofs.Openings.{run_snoc, was_unsent, is_sent, opening_tells}
-use Rattle.journal_history.proofs.Programs.{gather_append, not_fate, opening_sides, live_sides, ByFate, without, still, known, by_fate, Now, nobody, somebody, group_same, Inner, fate_is, sends_is}
+use Rattle.journal_history.proofs.Telling.{has_fate, Renewed, by_open, by_data}
+use Rattle.journal_history.proofs.Openings.{was_unsent, is_sent, opening_tells}
+use Rattle.journal_history.proofs.Programs.{gather_append, not_fate, opening_sides, live_sides, ByFate, without, still, known, by_fate, Now, nobody, somebody, group_same, Inner, sends_is}
+use Rattle.journal_history.proofs.Told.{fate_at, sends_at_lem, renewed_so, known_so, has_so, sent_so, unsent_so}
 
 module _ (n : ℕ) (n1 : 1 ≤ n) (n128 : n ≤ 128) (m : ℕ) (hm : m < 128) (setup : Setup) (hh : Proper setup) (queue : List ℕ) (ks : List Call) (k : Call) where
   abbrev st : State
@@ -58,50 +59,6 @@ module _ (n : ℕ) (n1 : 1 ≤ n) (n128 : n ≤ 128) (m : ℕ) (hm : m < 128) (s
 
   abbrev x' : Session
   x' = at (next st k).connection m
-
-  -- ---- what the call tells
-
-  silent_open : (i : ℕ) → en.call ≡ open_session i → en.wrote ≡ []
-  unfolding out
-  silent_open i q = subst (λ (c : Call). (out st c).wrote ≡ []) (sym q) (take-nil (called st (open_session i)).0.wrote)
-
-  fate_at : fate_of x'.outcome ≡ f'
-  fate_at = sym (ap (λ (s : State). outcome_at s.connection m) (run_snoc setup hh queue ks k))
-
-  sends_at_lem : is_unsent (account_of (next st k) m).seen.sends ≡ is_unsent v'
-  sends_at_lem = sym (ap (λ (s : State). is_unsent (account_of s m).seen.sends) (run_snoc setup hh queue ks k))
-
-  renewed_so : begins_session m en ≡ true → Renewed f' v'
-  renewed_so h =
-      subst (λ (g : Fate). Renewed g v') (sym (fate_is n n1 n128 m hm setup hh queue ks k))
-      (subst (λ (u : Sending). Renewed (fate_by m en.call en.answer (account_of st m).seen f) u) (sym (sends_is n n1 n128 m hm setup hh queue ks k))
-      (renewed (far_of (account_of st m).line) setup.role m (account_of st m).seen f en.call en.answer en.wrote silent_open h))
-
-  known_so : begins_session m en ≡ false → is_known f ≡ true → f' ≡ f
-  known_so h q = fate_is n n1 n128 m hm setup hh queue ks k ∙ known_stays m en.call en.answer (account_of st m).seen f h q
-
-  has_so : begins_session m en ≡ false → has_fate f ≡ true → has_fate f' ≡ true
-  has_so h q = ap has_fate (fate_is n n1 n128 m hm setup hh queue ks k) ∙ fate_stays m en.call en.answer (account_of st m).seen f h q
-
-  sent_so : begins_session m en ≡ false → is_unsent v ≡ false → is_unsent v' ≡ false
-  sent_so h u =
-      ap is_unsent (sends_is n n1 n128 m hm setup hh queue ks k)
-      ∙ sent_stays (far_of (account_of st m).line) setup.role m en.call en.wrote en.answer v h u
-
-  unsent_so : (is_unsent v ≡ true → has_fate f ≡ true) → is_unsent v' ≡ true → has_fate f' ≡ true
-  unsent_so h u = go (begins_session m en) refl
-    where
-      new : Renewed f' v' → has_fate f' ≡ true
-      new (by_open q w) = ap has_fate q
-      new (by_data q w) = absurd (true_false u w)
-
-      old : begins_session m en ≡ false → (b : Bool) → is_unsent v ≡ b → has_fate f' ≡ true
-      old q true w = has_so q (h w)
-      old q false w = absurd (true_false u (sent_so q w))
-
-      go : (b : Bool) → begins_session m en ≡ b → has_fate f' ≡ true
-      go true q = new (renewed_so q)
-      go false q = old q (is_unsent v) refl
 
   -- ---- what the keep leaves
 
@@ -169,7 +126,7 @@ module _ (n : ℕ) (n1 : 1 ≤ n) (n128 : n ≤ 128) (m : ℕ) (hm : m < 128) (s
                 reach = s.reach;
               };
               now = w;
-              unsent = unsent_so I.unsent;
+              unsent = (unsent_so n n1 n128 m hm setup hh queue ks k) I.unsent;
             })
 
     -- ---- case by case
@@ -259,14 +216,14 @@ module _ (n : ℕ) (n1 : 1 ≤ n) (n128 : n ≤ 128) (m : ℕ) (hm : m < 128) (s
       retold_is = ap (map (λ (t : JournaledSession). journaled_session f' t.answered)) q
 
       known_still : b₀ ≡ true → is_known f' ≡ true
-      known_still z = ap is_known (known_so r (kn z)) ∙ kn z
+      known_still z = ap is_known ((known_so n n1 n128 m hm setup hh queue ks k) r (kn z)) ∙ kn z
 
       retold_kinds : gather journal_kinds (b.past ++ map (λ (t : JournaledSession). journaled_session f' t.answered) b.current) ≡ K
       unfolding gather
       retold_kinds =
           ap (λ (l : List JournaledSession). gather journal_kinds (b.past ++ l)) retold_is
           ∙ gather_append b.past (journaled_session f' b₀ ∷ [])
-          ∙ ap (λ (l : List ℕ). gather journal_kinds b.past ++ (l ++ [])) (sym (group_same f f' b₀ (λ z. known_so r (kn z))))
+          ∙ ap (λ (l : List ℕ). gather journal_kinds b.past ++ (l ++ [])) (sym (group_same f f' b₀ (λ z. (known_so n n1 n128 m hm setup hh queue ks k) r (kn z))))
           ∙ sym (gather_append b.past (journaled_session f b₀ ∷ []))
           ∙ ap (λ (l : List JournaledSession). gather journal_kinds (b.past ++ l)) (sym q)
 
@@ -320,10 +277,10 @@ module _ (n : ℕ) (n1 : 1 ≤ n) (n128 : n ≤ 128) (m : ℕ) (hm : m < 128) (s
 
     due_new : Renewed f' v' → ByFate I.flag (fate_of x'.outcome) x'.sides → due_now ≡ new_session
     due_new z (without e d) = d
-    due_new (by_open z u) (still e d) = d ∙ opening_sides (far_start (next st k).connection) x'.sides (take x'.waiting (slot m (next st k).queue)) x'.outbound x'.finish (sends_at_lem ∙ u)
-    due_new (by_data z u) (still e d) = not_fate no_fate running refl refl (sym z ∙ sym fate_at ∙ e)
-    due_new (by_open z u) (known j kf kk nz d) = absurd (true_false kf (ap is_known (fate_at ∙ z)))
-    due_new (by_data z u) (known j kf kk nz d) = absurd (true_false kf (ap is_known (fate_at ∙ z)))
+    due_new (by_open z u) (still e d) = d ∙ opening_sides (far_start (next st k).connection) x'.sides (take x'.waiting (slot m (next st k).queue)) x'.outbound x'.finish ((sends_at_lem n n1 n128 m hm setup hh queue ks k) ∙ u)
+    due_new (by_data z u) (still e d) = not_fate no_fate running refl refl (sym z ∙ sym (fate_at n n1 n128 m hm setup hh queue ks k) ∙ e)
+    due_new (by_open z u) (known j kf kk nz d) = absurd (true_false kf (ap is_known ((fate_at n n1 n128 m hm setup hh queue ks k) ∙ z)))
+    due_new (by_data z u) (known j kf kk nz d) = absurd (true_false kf (ap is_known ((fate_at n n1 n128 m hm setup hh queue ks k) ∙ z)))
 
     -- where no start is stored, nothing is
     due_none : I.flag ≡ false → ByFate I.flag (fate_of x'.outcome) x'.sides → Done n n1 n128 m hm due_now K I.flag w' → Stands n n1 n128 m hm K false w'
@@ -343,24 +300,24 @@ module _ (n : ℕ) (n1 : 1 ≤ n) (n128 : n ≤ 128) (m : ℕ) (hm : m < 128) (s
     due_some : (b₀ : Bool) → b.current ≡ journaled_session f b₀ ∷ [] → I.flag ≡ not b₀ → begins_session m en ≡ false → is_opening m en.answer en.wrote ≡ false
         → (b₀ ≡ true → is_known f ≡ true) → has_fate f' ≡ true → is_unsent v' ≡ false → ByFate I.flag (fate_of x'.outcome) x'.sides
         → Done n n1 n128 m hm due_now K I.flag w' → After
-    due_some b₀ q p r o kn hf us (without e d) w = not_fate no_fate f' refl hf (sym e ∙ fate_at)
+    due_some b₀ q p r o kn hf us (without e d) w = not_fate no_fate f' refl hf (sym e ∙ (fate_at n n1 n128 m hm setup hh queue ks k))
     due_some b₀ q p r o kn hf us (still e d) w =
         waits b₀ q r o kn hf us I.flag p (λ z. unknown b₀ refl)
         (subst (λ (x : DueEntry). Done n n1 n128 m hm x K I.flag w')
-        (d ∙ live_sides (far_start (next st k).connection) x'.sides (take x'.waiting (slot m (next st k).queue)) x'.outbound x'.finish (sends_at_lem ∙ us)) w)
+        (d ∙ live_sides (far_start (next st k).connection) x'.sides (take x'.waiting (slot m (next st k).queue)) x'.outbound x'.finish ((sends_at_lem n n1 n128 m hm setup hh queue ks k) ∙ us)) w)
       where
         unknown : (c : Bool) → b₀ ≡ c → is_known f' ≡ b₀
-        unknown true z = absurd (true_false (known_still b₀ q r o kn hf us z) (ap is_known (sym fate_at ∙ e)))
-        unknown false z = ap is_known (sym fate_at ∙ e) ∙ sym z
+        unknown true z = absurd (true_false (known_still b₀ q r o kn hf us z) (ap is_known (sym (fate_at n n1 n128 m hm setup hh queue ks k) ∙ e)))
+        unknown false z = ap is_known (sym (fate_at n n1 n128 m hm setup hh queue ks k) ∙ e) ∙ sym z
     due_some true q p r o kn hf us (known j kf kk nz d) w =
-        waits true q r o kn hf us I.flag p (λ z. ap is_known (sym fate_at) ∙ kf)
+        waits true q r o kn hf us I.flag p (λ z. ap is_known (sym (fate_at n n1 n128 m hm setup hh queue ks k)) ∙ kf)
         (subst (λ (x : DueEntry). Done n n1 n128 m hm x K I.flag w') (d ∙ no I.flag (entry_due j) nothing_due p) w)
     due_some false q p r o kn hf us (known j kf kk nz d) w =
         go (subst (λ (x : DueEntry). Done n n1 n128 m hm x K I.flag w') (d ∙ yes I.flag (entry_due j) nothing_due p) w)
       where
         go : Left n n1 n128 m hm j K w' → After
         go (left_stored s) =
-            answers q r o hf us (ap is_known (sym fate_at) ∙ kf) j (ap fate_kind (sym fate_at) ∙ kk) nz
+            answers q r o hf us (ap is_known (sym (fate_at n n1 n128 m hm setup hh queue ks k)) ∙ kf) j (ap fate_kind (sym (fate_at n n1 n128 m hm setup hh queue ks k)) ∙ kk) nz
             (subst (λ (c : Bool). Stands n n1 n128 m hm (K ++ j ∷ []) c w') nz s)
         go (left_due s x) =
             waits false q r o kn hf us true refl (λ z. absurd (x z)) (subst (λ (c : Bool). Stands n n1 n128 m hm K c w') (ap not nz) s)
@@ -387,17 +344,17 @@ module _ (n : ℕ) (n1 : 1 ≤ n) (n128 : n ≤ 128) (m : ℕ) (hm : m < 128) (s
         old : is_opening m en.answer en.wrote ≡ false → begins_session m en ≡ false → (c : List JournaledSession) → Now I.flag f v c → b.current ≡ c → After
         old o r c (nobody p) q = none_kept q r o (due_none p (by_fate I.flag (fate_of x'.outcome) x'.sides) (due_is false o))
         old o r c (somebody b₀ p kn hf us) q =
-            due_some b₀ q p r o kn (has_so r hf) (sent_so r us) (by_fate I.flag (fate_of x'.outcome) x'.sides) (due_is false o)
+            due_some b₀ q p r o kn ((has_so n n1 n128 m hm setup hh queue ks k) r hf) ((sent_so n n1 n128 m hm setup hh queue ks k) r us) (by_fate I.flag (fate_of x'.outcome) x'.sides) (due_is false o)
 
         new : is_opening m en.answer en.wrote ≡ false → (t : Bool) → begins_session m en ≡ t → After
         new o true r =
             renew r o
             (subst (λ (x : DueEntry). Done n n1 n128 m hm x K I.flag w')
-            (due_new (renewed_so r) (by_fate I.flag (fate_of x'.outcome) x'.sides)) (due_is false o))
+            (due_new ((renewed_so n n1 n128 m hm setup hh queue ks k) r) (by_fate I.flag (fate_of x'.outcome) x'.sides)) (due_is false o))
         new o false r = old o r cur w q
 
         open_now : is_opening m en.answer en.wrote ≡ true → (c : List JournaledSession) → Now I.flag f v c → b.current ≡ c → After
-        open_now o c (nobody p) q = opened q o (has_so (opening_tells setup hh queue ks k m o) (I.unsent (first o))) (gone o) (due_is true o)
+        open_now o c (nobody p) q = opened q o ((has_so n n1 n128 m hm setup hh queue ks k) (opening_tells setup hh queue ks k m o) (I.unsent (first o))) (gone o) (due_is true o)
         open_now o c (somebody b₀ p kn hf us) q = absurd (true_false (first o) us)
 
         go : (t : Bool) → is_opening m en.answer en.wrote ≡ t → Now I.flag f v cur → After

@@ -4,6 +4,7 @@ pub mod Keeps
 pub mod Telling
 pub mod Openings
 pub mod Programs
+pub mod Told
 pub mod Calls
 pub mod Ends
 pub mod Stops
