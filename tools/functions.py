@@ -5,6 +5,7 @@ import re
 FUNCTION = re.compile(r"(\s*)(?:pub(?:\(crate\))? )?(?:extern \"C\" )?fn (\w+)")
 CLAUSE = re.compile(r"\s*(?:requires|ensures)\b")
 OWNER = re.compile(r"impl(?:<[^>]*>)? (\w+)")
+OF_TRAIT = re.compile(r"impl(?:<[^>]*>)? (?:\w+::)*(\w+)(?:<[^>]*>)? for (\w+)")
 
 Function = collections.namedtuple("Function", "name file lines clauses body contract text proofs")
 
@@ -40,7 +41,11 @@ def functions_in(file, text):
     """The functions of a file in the layout of `rt fmt`, their lines counted from 1."""
     lines, owner = [line.split("//")[0].rstrip() for line in text.splitlines()], None
     for start, line in enumerate(lines):
-        owner = OWNER.match(line).group(1) if OWNER.match(line) else owner
+        of_trait = OF_TRAIT.match(line)
+        if of_trait:
+            owner = of_trait.group(2) + of_trait.group(1)
+        else:
+            owner = OWNER.match(line).group(1) if OWNER.match(line) else owner
         found = FUNCTION.match(line)
         if found:
             indent, name = found.groups()

@@ -1,42 +1,40 @@
--- The place of a byte in a part: the first byte is it, or the place is one behind that in the rest.
-use Rattle.std.proofs.Common.{◌≡◌, ℕ, suc, ◌+◌, ◌<◌, ◌≤◌, Bool, true, false, List, ◌∷◌, [], length, take, drop, get_or, cond, sym, ap, ◌∙◌, subst, arith}
+-- The place of a byte in a text, told by the library's position.
+use Rattle.std.proofs.Common.{◌≡◌, ℕ, suc, ◌+◌, ◌≤◌, Bool, true, false, not, List, length, take, drop, ◌-◌, cond, refl, sym, ap, ◌∙◌, Some, None, Option, nat_lt, arith}
 use Rattle.std.specs.Prelude.{eqb}
-use Rattle.std.proofs.Math.Seq.{drop-cons}
-use Rattle.std.proofs.Math.ListN.{drop_of_length-le}
-use Rattle.std.proofs.lemmas.List.{get_or-take, length-take-le}
+use Rattle.std.specs.List.{position, position_or_len}
+use Rattle.std.proofs.lemmas.List.Recursion.{is_position_or_len}
+use Rattle.std.proofs.lemmas.Bool.{ltb-false}
+use Rattle.std.proofs.lemmas.List.{drop-take}
+use Rattle.std.proofs.lemmas.List.Sums.{prefix_len-le-length}
 use Rattle.byte_slices.specs.Bytes.{index_of, slice}
 
-part : (i to : ℕ) (s : List ℕ) → i < to → to ≤ length s → slice i to s ≡ get_or s i 0 ∷ slice (suc i) to s
-unfolding slice
-part i to s h k =
-    drop-cons (take to s) i 0 (subst (λ (n : ℕ). i < n) (sym (length-take-le to s k)) h)
-    ∙ ap (λ (x : ℕ). x ∷ drop (suc i) (take to s)) (get_or-take to s i 0 h)
+index_is : (b : ℕ) (s : List ℕ) → index_of b s ≡ position_or_len (λ x. eqb x b) s
+index_is b s =
+    is_position_or_len (index_of b) (λ x. eqb x b) refl
+    (λ x xs. let e : suc (index_of b xs) ≡ 1 + index_of b xs = omega arith in ap (cond (eqb x b) 0) e) s
 
--- a byte of the value is the first
-pub here : (b i to : ℕ) (s : List ℕ) → i < to → to ≤ length s → eqb (get_or s i 0) b ≡ true → i + index_of b (slice i to s) ≡ i
-here b i to s h k e =
-    let f : index_of b (slice i to s) ≡ 0 =
-    ap (index_of b) (part i to s h k) ∙ ap (λ (t : Bool). cond t 0 (suc (index_of b (slice (suc i) to s)))) e in
-    omega (arith, f)
-
--- behind another byte the search goes on
-pub behind : (b i to : ℕ) (s : List ℕ) → i < to → to ≤ length s → eqb (get_or s i 0) b ≡ false
-    → (i + 1) + index_of b (slice (i + 1) to s) ≡ i + index_of b (slice i to s)
-behind b i to s h k e =
-    let n : suc i ≡ i + 1 = omega arith in
-    let f : index_of b (slice i to s) ≡ suc (index_of b (slice (i + 1) to s)) =
-    ap (index_of b) (part i to s h k) ∙ ap (λ (t : Bool). cond t 0 (suc (index_of b (slice (suc i) to s)))) e
-    ∙ ap (λ (m : ℕ). suc (index_of b (slice m to s))) n in
-    omega (arith, f)
-
--- a part of no bytes has none
-pub none : (b to : ℕ) (s : List ℕ) → to ≤ length s → to + index_of b (slice to to s) ≡ to
-unfolding slice
-none b to s k =
-    let f : index_of b (slice to to s) ≡ 0 = ap (index_of b) (past to s k) in omega (arith, f)
+-- a byte that is found is at its index
+pub found : (b i : ℕ) (s : List ℕ) → Some i ≡ position (λ x. eqb x b) s → index_of b s ≡ i
+found b i s h = index_is b s ∙ go (nat_lt (position_or_len (λ x. eqb x b) s) (length s)) h
   where
-    past : (to : ℕ) (s : List ℕ) → to ≤ length s → drop to (take to s) ≡ []
-    past to s k = drop_past (take to s) to (omega (arith, length-take-le to s k))
-      where
-        drop_past : (l : List ℕ) (n : ℕ) → length l ≤ n → drop n l ≡ []
-        drop_past l n h = drop_of_length-le l {i = n} h
+    go : {n : ℕ} (t : Bool) → Some i ≡ cond t (Some n) None → n ≡ i
+    go true e = cc
+    go false e = cc
+
+-- where none is found the index is the length
+pub missed : (b : ℕ) (s : List ℕ) → None ≡ position (λ x. eqb x b) s → index_of b s ≡ length s
+missed b s h =
+    let p : ℕ → Bool = λ x. eqb x b in
+    let l : position_or_len p s ≤ length s = prefix_len-le-length (λ x. not (p x)) s in
+    index_is b s ∙ go (position_or_len p s) (length s) l (nat_lt (position_or_len p s) (length s)) refl h
+  where
+    go : (n l : ℕ) → n ≤ l → (t : Bool) → nat_lt n l ≡ t → None ≡ cond t (Some n) None → n ≡ l
+    go n l k true q e = let z : ◌≡◌ {A = Option ℕ} None (Some n) = e in cc
+    go n l k false q e = let m : l ≤ n = ltb-false n l q in omega arith
+
+-- a part of a text is a number of its bytes from an index on
+pub part_is : (from to : ℕ) (s : List ℕ) → from ≤ to → take (to - from) (drop from s) ≡ slice from to s
+unfolding slice
+part_is from to s h =
+    let e : from + (to - from) ≡ to = omega arith in
+    sym (drop-take from (to - from) s) ∙ ap (λ (n : ℕ). drop from (take n s)) e

@@ -1,8 +1,15 @@
 // Bytes of a slice: the place of the first of a value, and a copy into another slice.
 #![tactic(auto)]
 
-ghost use Rattle.std.specs.Prelude.{◌≡◌, ◌+◌, ◌≤◌, ◌++◌, length, take, drop};
+ghost use Rattle.std.specs.Prelude.{◌≡◌, ◌==◌, ◌+◌, ◌≤◌, ◌++◌, length, take, drop, position};
 ghost use Rattle.byte_slices.specs.Bytes.{index_of, slice};
+
+// The index of the first byte of a value.
+fn first_place(s: &[u8], value: u8) -> Option<usize>
+    ensures { result ≡ position (λ b. b == value) s.now }
+{
+    s.iter().position(|b| *b == value)
+}
 
 // The index of the first byte of a value between two indices, or the second index if none is there.
 pub fn find(s: &[u8], from: usize, to: usize, value: u8) -> usize
@@ -11,14 +18,10 @@ pub fn find(s: &[u8], from: usize, to: usize, value: u8) -> usize
     ensures place { result ≡ from + index_of value (slice from to s.now) }
     ensures within { result ≤ to }
 {
-    let mut i = from;
-    while i < to {
-        if s[i] == value {
-            return i;
-        }
-        i += 1;
+    match first_place(&s[from..to], value) {
+        Some(i) => from + i,
+        None => to,
     }
-    to
 }
 
 // Copies all bytes to the front of a slice, whose other bytes stay.

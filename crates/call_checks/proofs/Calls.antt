@@ -5,10 +5,13 @@ use mathlib.Core.List.{List, [], ◌∷◌}
 use Prim.Native.Nat.{ℕ, ◌≤◌}
 use lib.ListN.{length}
 use borrow.Author.Tests.{ltb-false}
-use Rattle.laws.specs.Result.{Result, ok}
+use Rattle.std.specs.Prelude as prelude
+use Rattle.std.specs.Prelude.{Ok, Err}
+use Rattle.std.specs.Result.{result_and}
+use native.Mathlib.Omega.{arith}
+use Rattle.laws.specs.Result.{Result, ok, refused}
 use Rattle.laws.proofs.Results.{refused_not_ok}
 use Rattle.refusal.specs.declared.Refusal.{Refusal}
-use Rattle.refusal.specs.Number.{refusal_number}
 use Rattle.wire.specs.declared.Message.{Message}
 use Rattle.state.specs.declared.Connection.{Connection}
 use Rattle.protocol.specs.Plan.{Plan, stop, check, take, settle, and_then}
@@ -17,9 +20,8 @@ use Rattle.protocol.specs.Judge.{done, header_out, sent, Effect, refuse, accept,
 use Rattle.protocol.specs.Call.{running, up_and_running, room_for}
 use Rattle.laws.specs.Room.{overlaid, at_front}
 use Rattle.protocol.specs.Result.{Given, given, bytes_of_all, in_room, decided}
-use Rattle.session.specs.Step.{to_stepped}
-use Rattle.call_checks.specs.declared.Gate.{Gate}
-use Rattle.call_checks.specs.declared.Gate.TheVariants as gate
+use Rattle.session.specs.declared.Taken as declared
+use Rattle.session.specs.Step.{stepped_as, to_stepped}
 use Rattle.call_checks.specs.Gate.{gate_as, to_gate, behind}
 use Rattle.call_checks.proofs.Checks.{followed_by, gated}
 use Rattle.laws.proofs.Rooms.{fits}
@@ -28,14 +30,12 @@ use Rattle.call_checks.specs.Deciding.{decision, after_checks}
 
 -- ---- the gate
 
-module _ {g : Gate} (p : Plan Unit) (e : gate_as g ≡ to_gate p) where
-  pub passed : (rest : Plan Effect) → g ≡ gate.Passed → decided rest ≡ decided (followed_by p rest)
-  passed rest q =
-      ap (λ (r : Result Unit). behind r refuse (decided rest)) (sym (ap gate_as q) ∙ e) ∙ gated refuse accept p rest
+module _ (p : Plan Unit) (rest : Plan Effect) where
+  pub passed : ok tt ≡ to_gate p → decided rest ≡ decided (followed_by p rest)
+  passed e = ap (λ (r : Result Unit). behind r refuse (decided rest)) e ∙ gated refuse accept p rest
 
-  pub stopped : (rest : Plan Effect) {r : Refusal} → g ≡ gate.Refused r → refuse (refusal_number r) ≡ decided (followed_by p rest)
-  stopped rest q =
-      ap (λ (r : Result Unit). behind r refuse (decided rest)) (sym (ap gate_as q) ∙ e) ∙ gated refuse accept p rest
+  pub stopped : {n : ℕ} → ◌≡◌ {A = Result Unit} (refused n) (to_gate p) → refuse n ≡ decided (followed_by p rest)
+  stopped e = ap (λ (r : Result Unit). behind r refuse (decided rest)) e ∙ gated refuse accept p rest
 
 -- a check that is passed does not hold, and the next ones are passed
 pub next_check : (b : Bool) (n : ℕ) (p : Plan Unit) → ok tt ≡ to_gate (check b n p) → (b ≡ false) × (ok tt ≡ to_gate p)
@@ -44,19 +44,25 @@ next_check true n p e = absurd (refused_not_ok (sym e))
 next_check false n p e = (refl, e)
 
 -- behind the gate there is the room that the call needs
-module _ {g : Gate} (c : Connection) (stepped room : ℕ) (rest : Plan Unit) where
-  pub roomy_running : gate_as g ≡ to_gate (running c (room_for stepped room rest)) → g ≡ gate.Passed → stepped ≤ room
-  roomy_running e q =
-      let formed = next_check _ _ _ (sym (ap gate_as q) ∙ e) in
+module _ (c : Connection) (asked room : ℕ) (rest : Plan Unit) where
+  pub roomy_running : ok tt ≡ to_gate (running c (room_for asked room rest)) → asked ≤ room
+  roomy_running e =
+      let formed = next_check _ _ _ e in
       let runs = next_check _ _ _ formed.1 in
-      ltb-false room stepped (next_check _ _ _ runs.1).0
+      ltb-false room asked (next_check _ _ _ runs.1).0
 
-  pub roomy : gate_as g ≡ to_gate (up_and_running c (room_for stepped room rest)) → g ≡ gate.Passed → stepped ≤ room
-  roomy e q =
-      let formed = next_check _ _ _ (sym (ap gate_as q) ∙ e) in
+  pub roomy : ok tt ≡ to_gate (up_and_running c (room_for asked room rest)) → asked ≤ room
+  roomy e =
+      let formed = next_check _ _ _ e in
       let runs = next_check _ _ _ formed.1 in
       let up = next_check _ _ _ runs.1 in
-      ltb-false room stepped (next_check _ _ _ up.1).0
+      ltb-false room asked (next_check _ _ _ up.1).0
+
+-- a result behind a gate: it is there only if the gate passed
+module _ {T : Type 0} where
+  pub gate_passed : (g : prelude.Result Unit Refusal) (s : prelude.Result T Refusal) {t : T} → result_and g s ≡ Ok t → ok tt ≡ gate_as g
+  gate_passed (Ok u) s e = refl
+  gate_passed (Err r) s e = let z : ◌≡◌ {A = ℕ} 0 1 = cc in absurd (omega arith)
 
 -- ---- what is asked of a session
 
@@ -68,14 +74,16 @@ module _ (effect : Taken → Effect) where
   step (check false k p) = step p
   step (take t) = refl
 
-  pub stepped : {g : Gate} {r : Result Taken} (p : Plan Unit) (ask : Plan Taken) → gate_as g ≡ to_gate p → g ≡ gate.Passed → r ≡ to_stepped ask
-      → decision effect r ≡ decided (followed_by p (and_then effect ask))
-  stepped p ask e q s = ap (decision effect) s ∙ step ask ∙ passed p e (and_then effect ask) q
-
   -- a step behind a gate
-  pub stepped_behind : {g h : Gate} (p : Plan Unit) (r : Result Taken) → gate_as g ≡ to_gate p → g ≡ h
-      → behind (gate_as h) refuse (decision effect r) ≡ after_checks p effect r
-  stepped_behind p r e q = ap (λ (x : Result Unit). behind x refuse (decision effect r)) (sym (ap gate_as q) ∙ e)
+  pub stepped_behind : (p : Plan Unit) (g : prelude.Result Unit Refusal) (s : prelude.Result declared.Taken Refusal) {r : prelude.Result declared.Taken Refusal}
+      → gate_as g ≡ to_gate p → r ≡ result_and g s → decision effect (stepped_as r) ≡ after_checks p effect (stepped_as s)
+  stepped_behind p g s {r} e q =
+      ap (λ (x : prelude.Result declared.Taken Refusal). decision effect (stepped_as x)) q ∙ is g
+      ∙ ap (λ (x : Result Unit). behind x refuse (decision effect (stepped_as s))) e
+    where
+      is : (g : prelude.Result Unit Refusal) → decision effect (stepped_as (result_and g s)) ≡ behind (gate_as g) refuse (decision effect (stepped_as s))
+      is (Ok u) = refl
+      is (Err r) = refl
 
   pub by_rule : (p : Plan Unit) (ask : Plan Taken) {r : Result Taken} → r ≡ to_stepped ask
       → after_checks p effect r ≡ decided (followed_by p (and_then effect ask))

@@ -5,6 +5,9 @@ use mathlib.Core.List.{List, [], map}
 use Prim.Native.Nat.{ℕ, ◌≤◌}
 use native.Mathlib.Omega.{arith}
 use lib.ListN.{length}
+use Rattle.std.specs.Prelude as prelude
+use Rattle.std.specs.Prelude.{Option, Some, None, Ok, Err}
+use Rattle.std.specs.Result.{result_and}
 use Rattle.laws.specs.Result.{Result}
 use Rattle.refusal.specs.declared.Refusal.{Refusal}
 use Rattle.refusal.specs.Number.{refusal_number}
@@ -25,8 +28,6 @@ use Rattle.protocol.proofs.Plans.{Takes}
 use Rattle.session.specs.declared.Sent.{Sent}
 use Rattle.session.specs.declared.Sent.TheVariants as session
 use Rattle.session.specs.declared.Taken.{Taken}
-use Rattle.session.specs.declared.Stepped.{Stepped}
-use Rattle.session.specs.declared.Stepped.TheVariants as stepped
 use Rattle.session.specs.Step.{sent_as, taken_as, stepped_as, to_stepped}
 use Rattle.state.specs.With.{with_session}
 use Rattle.laws.specs.Room.{at_front}
@@ -57,33 +58,39 @@ open_quiet r x _ = go x.sides
     go (sides.Live side.Ended side.Finished) = tt
     go (sides.Live side.Ended side.Ended) = refl
 
+-- behind a gate nothing more is sent
+pub quiet_behind : (g : prelude.Result Unit Refusal) (s : prelude.Result Taken Refusal) {r : prelude.Result Taken Refusal} → r ≡ result_and g s
+    → Quiet (stepped_as s) → Quiet (stepped_as r)
+quiet_behind (Ok u) s e q = rw e q
+quiet_behind (Err k) s e q = rw e tt
+
 nothing_sent : (n : ℕ) {s : List SessionMessage} → s ≡ [] → 0 ≡ length (bytes_of_all [] (map (λ m. sent (numbered n m)) s))
 nothing_sent n e = rw e none
 
-sent_fits : (n : ℕ) (s : Sent) (room : List ℕ) → 4 ≤ length room → length (bytes_of_all [] (map (λ m. sent (numbered n m)) (sent_as s))) ≤ length room
+sent_fits : (n : ℕ) (s : Option Sent) (room : List ℕ) → 4 ≤ length room → length (bytes_of_all [] (map (λ m. sent (numbered n m)) (sent_as s))) ≤ length room
 unfolding bytes_of_all
-sent_fits n session.Nothing room h = omega arith
-sent_fits n (session.Data k opens eof) room h = four (msg.Data opens false eof false n k) room h
-sent_fits n (session.Increment k) room h = four (msg.IncrementRation 0 n k) room h
-sent_fits n (session.Abort partial) room h = four (msg.Abort partial n 0) room h
-sent_fits n session.Close room h = four (msg.Close n) room h
+sent_fits n None room h = omega arith
+sent_fits n (Some (session.Data k opens eof)) room h = four (msg.Data opens false eof false n k) room h
+sent_fits n (Some (session.Increment k)) room h = four (msg.IncrementRation 0 n k) room h
+sent_fits n (Some (session.Abort partial)) room h = four (msg.Abort partial n 0) room h
+sent_fits n (Some session.Close) room h = four (msg.Close n) room h
 
-module _ (c : Connection) (n : ℕ) {x : Stepped} {res : Given} where
-  pub step_refused : {r : Refusal} → x ≡ stepped.Refused r → res ≡ given c [] (refuse (refusal_number r)) → res ≡ given c [] (decision (setting_session c n c.last done) (stepped_as x))
+module _ (c : Connection) (n : ℕ) {x : prelude.Result Taken Refusal} {res : Given} where
+  pub step_refused : {r : Refusal} → x ≡ Err r → res ≡ given c [] (refuse (refusal_number r)) → res ≡ given c [] (decision (setting_session c n c.last done) (stepped_as x))
   step_refused e g = rw e g
 
-  pub step_taken : {t : Taken} {next : Connection} → x ≡ stepped.Taken t → Quiet (stepped_as x) → next ≡ with_session n t.session c
+  pub step_taken : {t : Taken} {next : Connection} → x ≡ Ok t → Quiet (stepped_as x) → next ≡ with_session n t.session c
       → res ≡ giving next 0 → res ≡ given c [] (decision (setting_session c n c.last done) (stepped_as x))
   step_taken {t} e q w g =
       let still : sent_as t.sent ≡ [] = rw e at q in
       rw e (g ∙ taken c (setting_session c n c.last done (taken_as t)) refl w (nothing_sent n still))
 
-  pub step_refused_in : (room : List ℕ) {r : Refusal} → x ≡ stepped.Refused r → res ≡ given c [] (refuse (refusal_number r))
+  pub step_refused_in : (room : List ℕ) {r : Refusal} → x ≡ Err r → res ≡ given c [] (refuse (refusal_number r))
       → (res, room) ≡ in_room c room (decision (setting_session c n c.last done) (stepped_as x))
   step_refused_in room e g = rw e (refusing_in c room g)
 
   pub step_taken_in : (room : List ℕ) {t : Taken} {next : Connection} {wrote : ℕ} {last : List ℕ} {outs : List Output} → 4 ≤ length room
-      → x ≡ stepped.Taken t → next ≡ with_session n t.session c → outs ≡ map (λ m. sent (numbered n m)) (sent_as t.sent)
+      → x ≡ Ok t → next ≡ with_session n t.session c → outs ≡ map (λ m. sent (numbered n m)) (sent_as t.sent)
       → (wrote, last) ≡ at_front (bytes_of_all [] outs) room → res ≡ giving next wrote → (res, last) ≡ in_room c room (decision (setting_session c n c.last done) (stepped_as x))
   step_taken_in room {t} h e w o k g =
       rw (e, g)

@@ -1,24 +1,16 @@
--- The result of the checks before a call's own, and one more check.
-use Rattle.std.specs.Prelude.{ℕ, Bool, true, false}
+-- The result of the checks before a call's own, and of a rule behind them.
+use Rattle.std.specs.Prelude as prelude
+use Rattle.std.specs.Prelude.{ℕ}
 use Rattle.laws.specs.Result.{Result, ok, refused, violation}
-use Rattle.refusal.specs.Number.{refusal_number}
+use Rattle.refusal.specs.declared.Refusal.{Refusal}
+use Rattle.refusal.specs.Failure.{or_refused}
 use Rattle.protocol.specs.Plan.{Plan, settle}
-use Rattle.call_checks.specs.declared.Gate.{Gate}
-use Rattle.call_checks.specs.declared.Gate.TheVariants as gate
 
-abbrev pub gate_as : Gate → Result Unit
-gate_as gate.Passed = ok tt
-gate_as (gate.Refused r) = refused (refusal_number r)
+abbrev pub gate_as : prelude.Result Unit Refusal → Result Unit
+gate_as g = or_refused (λ u. u) g
 
 abbrev pub to_gate : Plan Unit → Result Unit
 to_gate p = settle refused ok p
-
--- a check that is made if those before it passed
-abbrev pub further : Result Unit → Bool → ℕ → Result Unit
-further (ok u) true n = refused n
-further (ok u) false n = ok u
-further (refused m) fails n = refused m
-further (violation f) fails n = violation f
 
 -- the result of a rule behind a gate
 abbrev pub behind : {B : Type 0} → Result Unit → (ℕ → B) → B → B

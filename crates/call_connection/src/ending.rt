@@ -2,7 +2,7 @@
 ghost use Rattle.std.specs.Prelude.{◌≡◌};
 ghost use Rattle.protocol.specs.Result.{called_as, shutdown_call, lost_call};
 
-use call_checks::{Gate, done, further, is_running, refused, to_write};
+use call_checks::{done, is_running, refuse_if, refused, to_write};
 use connection::{Cause, ended, role_of};
 use connection_output::{Outgoing, write};
 use refusal::Refusal;
@@ -14,15 +14,16 @@ use wire_fields::is_client;
 pub fn shutdown(c: Connection, room: &mut [u8]) -> Called
     ensures { (called_as result, room.new) ≡ shutdown_call c room.old }
 {
-    let stage = c.stage;
-    let client = is_client(role_of(stage));
-    let gate = further(to_write(c, room.len()), client, Refusal::WrongRole);
-    match gate {
-        Gate::Passed => {
-            let wrote = write(Outgoing::Message(Message::Shutdown { length: 0 }), room);
+    let for_server = refuse_if(is_client(role_of(c.stage)), Refusal::WrongRole);
+    match to_write(c, room.len()).and(for_server) {
+        Ok(()) => {
+            let wrote = write(
+                Some(Outgoing::Message(Message::Shutdown { length: 0 })),
+                room,
+            );
             done(ended(c, Cause::OwnShutdown), wrote)
         }
-        Gate::Refused(refusal) => refused(c, refusal),
+        Err(refusal) => refused(c, refusal),
     }
 }
 
@@ -30,9 +31,8 @@ pub fn shutdown(c: Connection, room: &mut [u8]) -> Called
 pub fn lost_line(c: Connection) -> Called
     ensures { called_as result ≡ lost_call c }
 {
-    let gate = is_running(c);
-    match gate {
-        Gate::Passed => done(ended(c, Cause::LineLost), 0),
-        Gate::Refused(refusal) => refused(c, refusal),
+    match is_running(c) {
+        Ok(()) => done(ended(c, Cause::LineLost), 0),
+        Err(refusal) => refused(c, refusal),
     }
 }

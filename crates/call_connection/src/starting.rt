@@ -1,13 +1,13 @@
 // The calls that start a connection and ask whether the far end is there: start and ping.
 ghost use Rattle.std.specs.Prelude.{◌≡◌};
-ghost use Rattle.protocol.specs.Call.{is_fresh, is_outstanding};
+ghost use Rattle.protocol.specs.Call.{is_fresh};
 ghost use Rattle.protocol.specs.Result.{called_as, start_call, ping_call};
 
-use call_checks::{Gate, done, further, refused, to_start, to_write};
+use call_checks::{done, refuse_if, refused, to_start, to_write};
 use connection::role_of;
 use connection_output::{Outgoing, write};
 use refusal::Refusal;
-use state::{Called, Connection, Ping, Stage};
+use state::{Called, Connection, Stage};
 use wire::Message;
 use wire_fields::is_server;
 
@@ -15,37 +15,21 @@ use wire_fields::is_server;
 fn is_fresh(stage: Stage) -> bool
     ensures { result ≡ is_fresh stage }
 {
-    match stage {
-        Stage::Fresh(_) => true,
-        Stage::Started => false,
-        Stage::Up(_, _) => false,
-    }
+    matches!(stage, Stage::Fresh(_))
 }
 
 // Writes the connection header of a client.
 pub fn start(c: Connection, room: &mut [u8]) -> Called
     ensures { (called_as result, room.new) ≡ start_call c room.old }
 {
-    let stage = c.stage;
-    let server = is_server(role_of(stage));
-    let fresh = is_fresh(stage);
-    let client_gate = further(to_start(c, room.len()), server, Refusal::WrongRole);
-    let gate = further(client_gate, !fresh, Refusal::WrongState);
-    match gate {
-        Gate::Passed => {
-            let wrote = write(Outgoing::Header(c.own), room);
+    let for_client = refuse_if(is_server(role_of(c.stage)), Refusal::WrongRole);
+    let once = refuse_if(!is_fresh(c.stage), Refusal::WrongState);
+    match to_start(c, room.len()).and(for_client).and(once) {
+        Ok(()) => {
+            let wrote = write(Some(Outgoing::Header(c.own)), room);
             done(c.with_stage(Stage::Started), wrote)
         }
-        Gate::Refused(refusal) => refused(c, refusal),
-    }
-}
-
-fn is_outstanding(ping: Ping) -> bool
-    ensures { result ≡ is_outstanding ping }
-{
-    match ping {
-        Ping::None => false,
-        Ping::Outstanding(_) => true,
+        Err(refusal) => refused(c, refusal),
     }
 }
 
@@ -53,18 +37,12 @@ fn is_outstanding(ping: Ping) -> bool
 pub fn ping(c: Connection, cookie: u16, room: &mut [u8]) -> Called
     ensures { (called_as result, room.new) ≡ ping_call c cookie room.old }
 {
-    let before = c.ping;
-    let outstanding = is_outstanding(before);
-    let gate = further(
-        to_write(c, room.len()),
-        outstanding,
-        Refusal::PingOutstanding,
-    );
-    match gate {
-        Gate::Passed => {
-            let wrote = write(Outgoing::Message(Message::Ping { cookie }), room);
-            done(c.with_ping(Ping::Outstanding(cookie)), wrote)
+    let alone = refuse_if(c.ping.is_some(), Refusal::PingOutstanding);
+    match to_write(c, room.len()).and(alone) {
+        Ok(()) => {
+            let wrote = write(Some(Outgoing::Message(Message::Ping { cookie })), room);
+            done(c.with_ping(Some(cookie)), wrote)
         }
-        Gate::Refused(refusal) => refused(c, refusal),
+        Err(refusal) => refused(c, refusal),
     }
 }

@@ -5,6 +5,8 @@ use mathlib.Core.List.{List, []}
 use Prim.Native.Nat.{ℕ, ◌-◌, ◌<◌, ◌≤◌}
 use lib.ListN.{length}
 use borrow.Author.Tests.{eq-eqb, lt-ltb, le-leb, eqb-true, ltb-false, leb-false}
+use Rattle.std.specs.Prelude as prelude
+use Rattle.std.specs.Prelude.{Ok, Err}
 use Rattle.laws.proofs.Pick.{yes}
 use Rattle.laws.proofs.Tests.{and_both, not_false}
 use Rattle.refusal.specs.declared.Refusal.{Refusal}
@@ -20,8 +22,6 @@ use Rattle.protocol.specs.Call.{put_rule}
 use Rattle.protocol.specs.Result.{Given, given, if_taken, decided, put_call}
 use Rattle.protocol.proofs.Plans.{Takes}
 use Rattle.session.specs.declared.Taken.{Taken}
-use Rattle.session.specs.declared.Stepped.{Stepped}
-use Rattle.session.specs.declared.Stepped.TheVariants as stepped
 use Rattle.session.specs.Step.{stepped_as}
 use Rattle.state.specs.With.{with_session}
 use Rattle.connection_check.proofs.Sessions.{waiting_fits_lem}
@@ -31,14 +31,14 @@ use Rattle.call_checks.proofs.Calls.{giving}
 use Rattle.call_put.specs.Put.{putting}
 use Rattle.call_checks.proofs.Steps.{step_taken, step_refused}
 
-module _ (c : Connection) (n w : ℕ) (bytes queue : List ℕ) {x : Stepped} {res : Given} where
+module _ (c : Connection) (n w : ℕ) (bytes queue : List ℕ) {x : prelude.Result Taken Refusal} {res : Given} where
   -- a put that its session takes
-  pub put_taken : {t : Taken} {next : Connection} {last : List ℕ} → x ≡ stepped.Taken t → Quiet (stepped_as x) → next ≡ with_session n t.session c
+  pub put_taken : {t : Taken} {next : Connection} {last : List ℕ} → x ≡ Ok t → Quiet (stepped_as x) → next ≡ with_session n t.session c
       → last ≡ put_into queue n w bytes → res ≡ giving next 0
       → (res, last) ≡ putting c n w bytes queue (decision (setting_session c n c.last done) (stepped_as x))
   put_taken e q s l g = rw (l, step_taken c n e q s g, e)
 
-  pub put_refused : {r : Refusal} → x ≡ stepped.Refused r → res ≡ given c [] (refuse (refusal_number r))
+  pub put_refused : {r : Refusal} → x ≡ Err r → res ≡ given c [] (refuse (refusal_number r))
       → (res, queue) ≡ putting c n w bytes queue (decision (setting_session c n c.last done) (stepped_as x))
   put_refused e g = rw (step_refused c n e g, e)
 
@@ -70,9 +70,3 @@ unfolding put_call
 put_is c n bytes queue =
     ap (λ (q : List ℕ). (given c [] (decided (put_rule c n (length bytes) (length queue))), q))
     (same_taken (put_rule c n (length bytes) (length queue)) _ _ queue (put_takes c n bytes queue))
-
--- a put that is stopped leaves the queue as it is
-pub put_stopped : (c : Connection) (n : ℕ) (bytes queue : List ℕ) {res : Given} {k : ℕ} → res ≡ given c [] (refuse k)
-    → refuse k ≡ decided (put_rule c n (length bytes) (length queue)) → (res, queue) ≡ put_call c n bytes queue
-put_stopped c n bytes queue g e =
-    rw g (ap (putting c n (at c n).waiting bytes queue) e) ∙ put_is c n bytes queue

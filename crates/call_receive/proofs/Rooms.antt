@@ -6,6 +6,7 @@ use native.Mathlib.Omega.{arith}
 use lib.ListN.{length, take, drop, length-append, length-drop, drop_of_length-le}
 use lib.Seq.{take_all, take-append_seam, drop-append_seam, drop-drop}
 use borrow.Rule.Slice.PartMut.{put_mid}
+use Rattle.std.specs.Prelude.{Some, None}
 use Rattle.wire.specs.declared.Message.TheVariants as msg
 use Rattle.protocol.specs.Judge.{header_out, sent}
 use Rattle.laws.specs.Room.{overlaid, at_front}
@@ -57,9 +58,9 @@ header_error own room h p q =
 
 pub fits_twelve : (r : Reply) → length (bytes_of_all [] (replies_as r)) ≤ 12
 unfolding bytes_of_all
-fits_twelve (reply.Only outgoing.Nothing) = omega arith
-fits_twelve (reply.Only (outgoing.Header n)) = omega arith
-fits_twelve (reply.Only (outgoing.Message m)) = omega (arith, ap length (one_message m))
+fits_twelve (reply.Only None) = omega arith
+fits_twelve (reply.Only (Some (outgoing.Header n))) = omega arith
+fits_twelve (reply.Only (Some (outgoing.Message m))) = omega (arith, ap length (one_message m))
 fits_twelve (reply.HeaderError n) = omega arith
 
 -- what is given, from the parts that the code computes

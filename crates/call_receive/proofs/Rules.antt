@@ -5,12 +5,11 @@ use mathlib.Core.List.{List, []}
 use Prim.Native.Nat.{ℕ, ◌≤◌}
 use lib.ListN.{length}
 use borrow.Author.Tests.{ltb-false}
-use Rattle.laws.specs.Result.{Result, ok}
-use Rattle.refusal.specs.declared.Refusal.{Refusal}
-use Rattle.refusal.specs.Number.{refusal_number}
+use Rattle.std.specs.Prelude as prelude
+use Rattle.std.specs.Prelude.{Ok}
+use Rattle.laws.specs.Result.{Result, ok, refused}
+use Rattle.refusal.specs.declared.ReadError.{ReadError}
 use Rattle.wire.specs.declared.Role.{Role}
-use Rattle.wire_connection_header.specs.declared.ReadHeader.{ReadHeader}
-use Rattle.wire_connection_header.specs.declared.ReadHeader.TheVariants as read-header
 use Rattle.wire_connection_header.specs.Answer.{header_read_as}
 use Rattle.state.specs.declared.Stage.{Stage}
 use Rattle.state.specs.declared.Stage.TheVariants as stage
@@ -19,9 +18,7 @@ use Rattle.protocol.specs.Plan.{Plan, stop, check, take, settle}
 use Rattle.protocol.specs.Judge.{header_received, Output, Decision, refuse, violate, accept}
 use Rattle.protocol.specs.Call.{answering, header_taken, reading, receive_gate, receive_rule}
 use Rattle.protocol.specs.Result.{Given, given, bytes_of_all, in_room, receive_call}
-use Rattle.call_checks.specs.declared.Gate.{Gate}
-use Rattle.call_checks.specs.declared.Gate.TheVariants as gate
-use Rattle.call_checks.specs.Gate.{gate_as, to_gate, behind}
+use Rattle.call_checks.specs.Gate.{to_gate, behind}
 use Rattle.state.specs.With.{with_stage}
 use Rattle.call_checks.proofs.Calls.{next_check, refusing_in}
 use Rattle.connection.proofs.Effects.{sets_stage}
@@ -31,7 +28,7 @@ use Rattle.call_receive.specs.Replied.{replied}
 -- ---- the reading
 
 -- a good connection header
-pub header_taken_lem : (c : Connection) (r : Role) {h : ReadHeader} {far : ℕ} {next : Connection} {outs : List Output} → h ≡ read-header.Number far
+pub header_taken_lem : (c : Connection) (r : Role) {h : prelude.Result ℕ ReadError} {far : ℕ} {next : Connection} {outs : List Output} → h ≡ Ok far
     → next ≡ with_stage (stage.Up r far) c → outs ≡ answering r c.own
     → record { connection = next; answer = ok (header_received far); outs = outs } ≡ verdict c (header_taken c r (header_read_as h))
 header_taken_lem c r {h} {far} e q o = rw (e, q ∙ sets_stage c (header_received far) (answering r c.own) (stage.Up r far), o)
@@ -57,28 +54,29 @@ by_gate bad good (check true n p) = refl
 by_gate bad good (check false n p) = by_gate bad good p
 by_gate bad good (take u) = refl
 
-module _ (c : Connection) (input room : List ℕ) {g : Gate} (e : gate_as g ≡ to_gate (receive_gate c (length room))) where
-  decides : {h : Gate} → g ≡ h → behind (gate_as h) refuse (reading c input c.stage) ≡ receive_rule c input (length room)
+module _ (c : Connection) (input room : List ℕ) where
+  decides : {r : Result Unit} → r ≡ to_gate (receive_gate c (length room)) → behind r refuse (reading c input c.stage) ≡ receive_rule c input (length room)
   unfolding receive_rule
-  decides q =
-      ap (λ (r : Result Unit). behind r refuse (reading c input c.stage)) (sym (ap gate_as q) ∙ e)
+  decides e =
+      ap (λ (r : Result Unit). behind r refuse (reading c input c.stage)) e
       ∙ by_gate refuse (reading c input c.stage) (receive_gate c (length room))
 
-  pub passed : {v : Verdict} {z : Given × List ℕ} → g ≡ gate.Passed → v ≡ verdict c (reading c input c.stage) → z ≡ replied v room
-      → z ≡ receive_call c input room
-  unfolding receive_call
-  passed q h k =
-      k ∙ ap (λ (v : Verdict). replied v room) h ∙ same_given c room (reading c input c.stage) ∙ ap (in_room c room) (decides q)
-
-  pub stopped : {r : Refusal} {x : Given} → g ≡ gate.Refused r → x ≡ given c [] (refuse (refusal_number r))
+  pub stopped : {n : ℕ} {x : Given} → ◌≡◌ {A = Result Unit} (refused n) (to_gate (receive_gate c (length room))) → x ≡ given c [] (refuse n)
       → (x, room) ≡ receive_call c input room
   unfolding receive_call
-  stopped q h = refusing_in c room h ∙ ap (in_room c room) (decides q)
+  stopped e h = refusing_in c room h ∙ ap (in_room c room) (decides e)
 
-  -- behind the gate there are 12 bytes of room
-  pub roomy : g ≡ gate.Passed → 12 ≤ length room
-  roomy q =
-      let formed = next_check _ _ _ (sym (ap gate_as q) ∙ e) in
-      let runs = next_check _ _ _ formed.1 in
-      let started = next_check _ _ _ runs.1 in
-      ltb-false (length room) 12 (next_check _ _ _ started.1).0
+  module _ (e : ok tt ≡ to_gate (receive_gate c (length room))) where
+    pub passed : {v : Verdict} {z : Given × List ℕ} → v ≡ verdict c (reading c input c.stage) → z ≡ replied v room
+        → z ≡ receive_call c input room
+    unfolding receive_call
+    passed h k =
+        k ∙ ap (λ (v : Verdict). replied v room) h ∙ same_given c room (reading c input c.stage) ∙ ap (in_room c room) (decides e)
+
+    -- behind the gate there are 12 bytes of room
+    pub roomy : 12 ≤ length room
+    roomy =
+        let formed = next_check _ _ _ e in
+        let runs = next_check _ _ _ formed.1 in
+        let started = next_check _ _ _ runs.1 in
+        ltb-false (length room) 12 (next_check _ _ _ started.1).0

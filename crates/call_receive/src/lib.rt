@@ -11,39 +11,33 @@ ghost use Rattle.call_checks.specs.Gate.{gate_as, to_gate};
 
 use crate::readings::decide;
 use crate::replies::replied;
-use call_checks::{Gate, further, is_running, refused};
+use call_checks::{is_running, refuse_if, refused};
 use refusal::Refusal;
 use state::{Called, Connection, Stage};
-use wire_fields::is_client;
+use wire::Role;
 
 // Whether it is a client that has not sent its header.
 fn unstarted(stage: Stage) -> bool
     ensures { result ≡ call_unstarted stage }
 {
-    match stage {
-        Stage::Fresh(role) => is_client(role),
-        Stage::Started => false,
-        Stage::Up(_, _) => false,
-    }
+    matches!(stage, Stage::Fresh(Role::Client))
 }
 
 // The checks before the input is read; the longest reply, a header and an Error, has 12 bytes.
-fn to_receive(c: Connection, room: usize) -> Gate
+fn to_receive(c: Connection, room: usize) -> Result<(), Refusal>
     ensures { gate_as result ≡ to_gate (receive_gate c room) }
 {
-    let stage = c.stage;
-    let silent = unstarted(stage);
-    let started = further(is_running(c), silent, Refusal::NotExchanged);
-    further(started, room < 12, Refusal::WrongRoom)
+    is_running(c)?;
+    refuse_if(unstarted(c.stage), Refusal::NotExchanged)?;
+    refuse_if(room < 12, Refusal::WrongRoom)
 }
 
 // Takes the connection header or message at the front of the input, and writes the reply to it.
 pub fn receive(c: Connection, input: &[u8], room: &mut [u8]) -> Called
     ensures { (called_as result, room.new) ≡ receive_call c input.now room.old }
 {
-    let gate = to_receive(c, room.len());
-    match gate {
-        Gate::Passed => replied(decide(c, input), room),
-        Gate::Refused(refusal) => refused(c, refusal),
+    if let Err(refusal) = to_receive(c, room.len()) {
+        return refused(c, refusal);
     }
+    replied(decide(c, input), room)
 }

@@ -8,48 +8,54 @@ ghost use Rattle.connection_judge.specs.Verdict.{replies_as, verdict_as, verdict
 
 use connection_judge::{Judged, Reply, incomplete, judge, violated};
 use connection_output::Outgoing;
+use refusal::ReadError;
 use state::{Answer, Connection, Stage};
-use wire::Role;
-use wire_connection_header::{ReadHeader, read_connection_header};
-use wire_read::{Read, read_message};
+use wire::{Message, Role};
+use wire_connection_header::read_connection_header;
+use wire_read::read_message;
 
 // The reply to a good header: a server writes its own.
 fn answering(role: Role, own: u16) -> Reply
     ensures { replies_as result ≡ call_answering role own }
 {
     match role {
-        Role::Client => Reply::Only(Outgoing::Nothing),
-        Role::Server => Reply::Only(Outgoing::Header(own)),
+        Role::Client => Reply::Only(None),
+        Role::Server => Reply::Only(Some(Outgoing::Header(own))),
+    }
+}
+
+// The decision where a reader gives nothing: more bytes are to come, or those that came break the protocol.
+fn unread(c: Connection, error: ReadError) -> Judged
+    ensures header { (role : Role) → verdict_as result ≡ verdict c (header_taken c role (header_read_as (Err error))) }
+    ensures message { verdict_as result ≡ verdict c (message_taken c (read_as (Err error))) }
+{
+    match error {
+        ReadError::Incomplete => incomplete(c),
+        ReadError::Violated(fault) => violated(c, fault),
     }
 }
 
 // The decision on a header that was read; after a good one the headers are exchanged.
-fn take_header(c: Connection, role: Role, header: ReadHeader) -> Judged
+fn take_header(c: Connection, role: Role, header: Result<u16, ReadError>) -> Judged
     ensures { verdict_as result ≡ verdict c (header_taken c role (header_read_as header)) }
 {
     match header {
-        ReadHeader::Number(far) => {
-            let reply = answering(role, c.own);
-            let next = c.with_stage(Stage::Up(role, far));
-            Judged {
-                connection: next,
-                answer: Answer::Header(far),
-                reply,
-            }
-        }
-        ReadHeader::Incomplete => incomplete(c),
-        ReadHeader::Violated(fault) => violated(c, fault),
+        Ok(far) => Judged {
+            connection: c.with_stage(Stage::Up(role, far)),
+            answer: Ok(Answer::Header(far)),
+            reply: answering(role, c.own),
+        },
+        Err(why) => unread(c, why),
     }
 }
 
 // The decision on a message that was read.
-fn take_message(c: Connection, message: Read) -> Judged
+fn take_message(c: Connection, message: Result<Message, ReadError>) -> Judged
     ensures { verdict_as result ≡ verdict c (message_taken c (read_as message)) }
 {
     match message {
-        Read::Message(m) => judge(c, m),
-        Read::Incomplete => incomplete(c),
-        Read::Violated(fault) => violated(c, fault),
+        Ok(m) => judge(c, m),
+        Err(error) => unread(c, error),
     }
 }
 
@@ -66,8 +72,7 @@ fn other_end(role: Role) -> Role
 pub(crate) fn decide(c: Connection, input: &[u8]) -> Judged
     ensures { verdict_as result ≡ verdict c (reading c input.now c.stage) }
 {
-    let stage = c.stage;
-    match stage {
+    match c.stage {
         Stage::Fresh(role) => take_header(c, role, read_connection_header(input)),
         Stage::Started => take_header(c, Role::Client, read_connection_header(input)),
         Stage::Up(role, _) => take_message(c, read_message(other_end(role), input)),

@@ -15,9 +15,9 @@ fn write_header_error(own: u16, room: &mut [u8]) -> usize
     requires { 12 ≤ length room.old }
     ensures { (result, room.new) ≡ at_front (bytes_of_all [] (replies_as (Reply.HeaderError own))) room.old }
 {
-    write(Outgoing::Header(own), room);
+    write(Some(Outgoing::Header(own)), room);
     write(
-        Outgoing::Message(Message::Error { length: 0 }),
+        Some(Outgoing::Message(Message::Error { length: 0 })),
         &mut room[8..],
     );
     12
@@ -39,14 +39,11 @@ pub(crate) fn replied(judged: Judged, room: &mut [u8]) -> Called
     requires { 12 ≤ length room.old }
     ensures { (called_as result, room.new) ≡ replied_replied (verdict_as judged) room.old }
 {
-    let connection = judged.connection;
-    let answer = judged.answer;
-    let reply = judged.reply;
-    let wrote = write_reply(reply, room);
-    let extent = extent_of(answer);
+    let wrote = write_reply(judged.reply, room);
+    let extent = extent_of(judged.answer);
     Called {
-        connection,
-        answer,
+        connection: judged.connection,
+        answer: judged.answer,
         used: extent.used,
         wrote,
         start: extent.start,

@@ -1,5 +1,4 @@
 // The calls on one session that write nothing: open and finish.
-
 ghost use Rattle.std.specs.Prelude.{◌≡◌};
 ghost use Rattle.protocol.specs.Result.{called_as, open_call, finish_call};
 
@@ -11,8 +10,7 @@ use state::{Called, Connection};
 pub fn open_session(c: Connection, n: u8) -> Called
     ensures { called_as result ≡ open_call c n }
 {
-    let stage = c.stage;
-    let stepped = session_open::step_open(role_of(stage), session_at(c, n));
+    let stepped = session_open::step_open(role_of(c.stage), session_at(c, n));
     take_step(c, n, stepped)
 }
 

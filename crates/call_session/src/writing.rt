@@ -18,8 +18,7 @@ pub fn grant(c: Connection, n: u8, amount: u32, room: &mut [u8]) -> Called
 pub fn abort(c: Connection, n: u8, partial: bool, room: &mut [u8]) -> Called
     ensures { (called_as result, room.new) ≡ abort_call c n partial room.old }
 {
-    let stage = c.stage;
-    let stepped = session_end::step_abort(role_of(stage), session_at(c, n), partial);
+    let stepped = session_end::step_abort(role_of(c.stage), session_at(c, n), partial);
     take_step_in(c, n, stepped, room)
 }
 
@@ -27,7 +26,6 @@ pub fn abort(c: Connection, n: u8, partial: bool, room: &mut [u8]) -> Called
 pub fn close(c: Connection, n: u8, room: &mut [u8]) -> Called
     ensures { (called_as result, room.new) ≡ close_call c n room.old }
 {
-    let stage = c.stage;
-    let stepped = session_end::step_close(role_of(stage), session_at(c, n));
+    let stepped = session_end::step_close(role_of(c.stage), session_at(c, n));
     take_step_in(c, n, stepped, room)
 }

@@ -18,10 +18,7 @@ fn is_servable(queue: usize, n: u8, waiting: u16) -> bool
     ensures value { result ≡ servable queue n waiting }
     ensures queue_size_value { QUEUE_SIZE ≡ queue_size }
 {
-    let whole = queue == QUEUE_SIZE;
-    let numbered = n < 128;
-    let within = waiting <= SLOT_SIZE;
-    whole & numbered & within
+    queue == QUEUE_SIZE && n < 128 && waiting <= SLOT_SIZE
 }
 
 // The place in the queue where the slot of a number begins.

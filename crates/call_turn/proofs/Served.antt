@@ -1,11 +1,13 @@
 -- The result of a turn: the message of the number that is served, with the first bytes of its slot, and the slot without them.
-use mathlib.Core.Path.{◌≡◌, sym, ap, ◌∙◌}
+use mathlib.Core.Path.{◌≡◌, ap, ◌∙◌}
 use mathlib.Core.Bool.{true, false}
 use mathlib.Core.List.{List, [], ◌∷◌, map}
 use Prim.Native.Nat.{ℕ, ◌+◌, ◌-◌, ◌*◌, ◌≤◌, ◌<◌}
 use native.Mathlib.Omega.{arith}
 use lib.ListN.{length, take, drop, length-append, length-take}
 use borrow.Author.Tests.{eq-eqb, lt-ltb, le-leb, eqb-true, ltb-false}
+use Rattle.std.specs.Prelude as prelude
+use Rattle.std.specs.Prelude.{Option, Some, None, Ok, Err}
 use Rattle.laws.specs.Result.{ok}
 use Rattle.laws.proofs.Pick.{yes}
 use Rattle.laws.proofs.Tests.{and_both, not_false}
@@ -28,12 +30,8 @@ use Rattle.protocol.proofs.Slots.{slot_length}
 use Rattle.session.specs.declared.Sent.{Sent}
 use Rattle.session.specs.declared.Sent.TheVariants as session
 use Rattle.session.specs.declared.Taken.{Taken}
-use Rattle.session.specs.declared.Stepped.{Stepped}
-use Rattle.session.specs.declared.Stepped.TheVariants as stepped
 use Rattle.session.specs.Step.{sent_as, stepped_as}
-use Rattle.call_checks.specs.declared.Gate.{Gate}
-use Rattle.call_checks.specs.declared.Gate.TheVariants as gate
-use Rattle.call_checks.specs.Gate.{gate_as, to_gate}
+use Rattle.call_checks.specs.Gate.{to_gate}
 use Rattle.laws.proofs.Rooms.{fits}
 use Rattle.connection_output.proofs.Rooms.{one_with}
 use Rattle.call_slots.specs.Slots.{taken_from}
@@ -49,10 +47,10 @@ pub record Behind (c : Connection) (queue room : ℕ) : Type 0 where
   pub roomy : turn_room ≤ room
   pub whole : queue ≡ queue_size
 
-pub gate_has : {g : Gate} (c : Connection) (queue room : ℕ)
-    → gate_as g ≡ to_gate (up_and_running c (room_for turn_room room (queue_of queue (taking tt)))) → g ≡ gate.Passed → Behind c queue room
-gate_has c queue room e q =
-    let formed = next_check _ _ _ (sym (ap gate_as q) ∙ e) in
+pub gate_has : (c : Connection) (queue room : ℕ)
+    → ok tt ≡ to_gate (up_and_running c (room_for turn_room room (queue_of queue (taking tt)))) → Behind c queue room
+gate_has c queue room e =
+    let formed = next_check _ _ _ e in
     let runs = next_check _ _ _ formed.1 in
     let up = next_check _ _ _ runs.1 in
     let roomy = next_check _ _ _ up.1 in
@@ -66,14 +64,14 @@ message_fits payload m e =
     let body : length (take (body_length m) payload) ≤ slot_size = simp length-take (omega arith) in
     rw (one_with, length-append) (omega arith)
 
-sent_fits : (n : ℕ) (payload : List ℕ) (s : Sent) → length payload ≡ slot_size
+sent_fits : (n : ℕ) (payload : List ℕ) (s : Option Sent) → length payload ≡ slot_size
     → length (bytes_of_all payload (map (λ m. sent (numbered n m)) (sent_as s))) ≤ turn_room
 unfolding bytes_of_all
-sent_fits n payload session.Nothing e = omega arith
-sent_fits n payload (session.Data k opens eof) e = message_fits payload (msg.Data opens false eof false n k) e
-sent_fits n payload (session.Increment k) e = message_fits payload (msg.IncrementRation 0 n k) e
-sent_fits n payload (session.Abort partial) e = message_fits payload (msg.Abort partial n 0) e
-sent_fits n payload session.Close e = message_fits payload (msg.Close n) e
+sent_fits n payload None e = omega arith
+sent_fits n payload (Some (session.Data k opens eof)) e = message_fits payload (msg.Data opens false eof false n k) e
+sent_fits n payload (Some (session.Increment k)) e = message_fits payload (msg.IncrementRation 0 n k) e
+sent_fits n payload (Some (session.Abort partial)) e = message_fits payload (msg.Abort partial n 0) e
+sent_fits n payload (Some session.Close) e = message_fits payload (msg.Close n) e
 
 -- ---- a session's step that is taken or refused
 
@@ -87,14 +85,14 @@ slot_without n w y queue number within whole =
     let less : w - y ≤ w = omega arith in
     yes _ _ _ (and_both (and_both (eq-eqb _ _ whole) (lt-ltb _ _ number)) (le-leb _ _ within)) ∙ yes _ _ _ (le-leb _ _ less)
 
-module _ (c : Connection) (n : ℕ) (queue room : List ℕ) {x : Stepped} {res : Given} where
-  pub turn_refused : {r : Refusal} → x ≡ stepped.Refused r → res ≡ given c [] (refuse (refusal_number r))
+module _ (c : Connection) (n : ℕ) (queue room : List ℕ) {x : prelude.Result Taken Refusal} {res : Given} where
+  pub turn_refused : {r : Refusal} → x ≡ Err r → res ≡ given c [] (refuse (refusal_number r))
       → (res, queue, room) ≡ turn_gives c queue room (decision (setting_session c n n (served n)) (stepped_as x))
   turn_refused e g = rw (e, g)
 
   pub turn_taken : {w start : ℕ} {t : Taken} {next : Connection} {wrote k : ℕ} {left last : List ℕ} {outs : List Output} → n < 128 → w ≡ (at c n).waiting
       → w ≤ slot_size → length queue ≡ queue_size → turn_room ≤ length room
-      → x ≡ stepped.Taken t → next ≡ with_served c n t.session → outs ≡ map (λ m. sent (numbered n m)) (sent_as t.sent)
+      → x ≡ Ok t → next ≡ with_served c n t.session → outs ≡ map (λ m. sent (numbered n m)) (sent_as t.sent)
       → start ≡ n * slot_size → (wrote, last) ≡ at_front (bytes_of_all (take (start + slot_size - start) (drop start queue)) outs) room
       → k ≡ w - t.session.waiting → left ≡ taken_from queue n w k → res ≡ reporting next n wrote
       → (res, left, last) ≡ turn_gives c queue room (decision (setting_session c n n (served n)) (stepped_as x))

@@ -8,22 +8,12 @@ use state::Session;
 fn flag_of(x: Session) -> u8
     ensures { result ≡ flag_of x }
 {
-    if ready(x) {
-        return 1;
-    }
-    0
+    u8::from(ready(x))
 }
 
-// For each number whether its session is ready, in one pass over the table.
+// For each number whether its session is ready.
 pub(crate) fn ready_flags(table: [Session; 128]) -> [u8; 128]
     ensures { result ≡ map flag_of table }
 {
-    let mut flags = [0u8; 128];
-    let mut i: usize = 0;
-    while i < 128 {
-        let x = table[i];
-        flags[i] = flag_of(x);
-        i += 1;
-    }
-    flags
+    table.map(|x| flag_of(x))
 }

@@ -13,38 +13,31 @@ ghost use Rattle.call_checks.specs.Gate.{gate_as, to_gate};
 
 use crate::flags::ready_flags;
 use crate::serving::serve;
-use call_checks::{Gate, further, is_up, refused};
-use call_search::{Found, nearest_set};
+use call_checks::{is_up, refuse_if, refused};
+use call_search::nearest_set;
 use call_slots::QUEUE_SIZE;
 use refusal::Refusal;
 use session::SLOT_SIZE;
 use state::{Called, Connection};
 
 // The checks before the search.
-fn to_turn(c: Connection, queue: usize, room: usize) -> Gate
+fn to_turn(c: Connection, queue: usize, room: usize) -> Result<(), Refusal>
     ensures { gate_as result ≡ to_gate (up_and_running c (room_for turn_room room (queue_of queue (take tt)))) }
 {
-    let small = room < 4 + (SLOT_SIZE as usize);
-    let room_gate = further(is_up(c), small, Refusal::WrongRoom);
-    let whole = queue == QUEUE_SIZE;
-    further(room_gate, !whole, Refusal::WrongRoom)
+    is_up(c)?;
+    refuse_if(room < 4 + (SLOT_SIZE as usize), Refusal::WrongRoom)?;
+    refuse_if(queue != QUEUE_SIZE, Refusal::WrongRoom)
 }
 
 // Writes one Data message of the first ready session after the one served last.
 pub fn turn(c: Connection, queue: &mut [u8], room: &mut [u8]) -> Called
     ensures { (called_as result, queue.new, room.new) ≡ turn_call c queue.old room.old }
 {
-    let gate = to_turn(c, queue.len(), room.len());
-    match gate {
-        Gate::Passed => {
-            let table = c.sessions;
-            let flags = ready_flags(table);
-            let found = nearest_set(&flags, c.last);
-            match found {
-                Found::Nothing => refused(c, Refusal::NothingReady),
-                Found::At(n) => serve(c, n, queue, room),
-            }
-        }
-        Gate::Refused(refusal) => refused(c, refusal),
+    if let Err(refusal) = to_turn(c, queue.len(), room.len()) {
+        return refused(c, refusal);
+    }
+    match nearest_set(&ready_flags(c.sessions), c.last) {
+        Some(n) => serve(c, n, queue, room),
+        None => refused(c, Refusal::NothingReady),
     }
 }

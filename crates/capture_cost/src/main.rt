@@ -5,7 +5,6 @@
 // outside it measures the time.
 #![tactic(auto)]
 
-use capture_rules::Next;
 use capture_step::next_at;
 use std::env::FillError;
 use std::io;
@@ -29,11 +28,9 @@ struct Scan {
 // Writes the header of each message into the capture, as far as whole messages fit.
 fn write_headers(capture: &mut [u8; CAPTURE_SIZE]) {
     let mut at: usize = 0;
+    // Kept: a walk over mutable chunks asks for an invariant of its iterator, which is longer than this one.
     while at <= CAPTURE_SIZE - MESSAGE_SIZE {
-        capture[at] = 0x80;
-        capture[at + 1] = 0x05;
-        capture[at + 2] = 0x00;
-        capture[at + 3] = 0x10;
+        capture[at..at + 4].copy_from_slice(&[0x80, 0x05, 0x00, 0x10]);
         at += MESSAGE_SIZE;
     }
 }
@@ -41,30 +38,20 @@ fn write_headers(capture: &mut [u8; CAPTURE_SIZE]) {
 // Reads the message at the place; behind the last one reading begins again.
 fn read_round(capture: &[u8; CAPTURE_SIZE], scan: Scan) -> Scan {
     let step = next_at(capture, Role::Server, scan.place);
-    let next = step.next;
-    match next {
-        Next::Message(_) => Scan {
+    match step.next {
+        Ok(_) => Scan {
             place: step.place,
-            taken: std::num::wrapping_add_u64(scan.taken, 1),
+            taken: scan.taken.wrapping_add(1),
         },
-        Next::Refused(_) => Scan {
-            place: 0,
-            taken: scan.taken,
-        },
-        Next::Violated(_) => Scan {
-            place: 0,
-            taken: scan.taken,
-        },
+        Err(_) => Scan { place: 0, ..scan },
     }
 }
 
 // Each round reads one message.
 fn reads(capture: &[u8; CAPTURE_SIZE]) -> u64 {
     let mut scan = Scan { place: 0, taken: 0 };
-    let mut i: u64 = 0;
-    while i < ROUNDS {
+    for _ in 0..ROUNDS {
         scan = read_round(capture, scan);
-        i += 1;
     }
     scan.taken
 }
@@ -76,17 +63,9 @@ fn put(rt: &impl Print, name: &[u8], count: u64) -> io::Result<()> {
 
 // The sum of the bytes.
 fn sum(bytes: &[u8]) -> u64 {
-    let mut total: u64 = 0;
-    let mut i: usize = 0;
-    while i < bytes.len() {
-        total = std::num::wrapping_add_u64(total, wide(bytes[i]));
-        i += 1;
-    }
-    total
-}
-
-fn wide(byte: u8) -> u64 {
-    byte as u64
+    bytes
+        .iter()
+        .fold(0, |total: u64, byte| total.wrapping_add(*byte as u64))
 }
 
 // Prints what is in the capture.

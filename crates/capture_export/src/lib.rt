@@ -9,12 +9,13 @@ ghost use Rattle.capture_export.specs.Words.{sender_of, step_words};
 ghost use Rattle.capture_export.specs.Answers.{found_words};
 
 use capture_reader::read_at;
-use capture_rules::{Next, Step};
+use capture_rules::Step;
 pub use messages::items_of;
+use refusal::Failure;
 use wire::Role;
 
 // The items of a message: the number of the type, the flags or the shift, the session, and the length, cookie or increment.
-#[derive(Clone, Copy)]
+#[derive(Clone, Copy, Debug, PartialEq, Eq)]
 pub struct Items {
     pub kind: u64,
     pub flags: u64,
@@ -24,7 +25,8 @@ pub struct Items {
 
 // What is at a place of a capture: the number of a refusal or violation, or 0; the place of the byte at fault, or 0; the place to read
 // on from; and the items of the message, or 0.
-#[derive(Clone, Copy)]
+// Kept: a number that is 0 for a message is what programs in C get from `jmux_read_at`.
+#[derive(Clone, Copy, Debug, PartialEq, Eq)]
 pub struct Finding {
     pub number: u64,
     pub fault: u64,
@@ -36,10 +38,7 @@ pub struct Finding {
 pub fn sender(server: bool) -> Role
     ensures { result ≡ sender_of server }
 {
-    if server {
-        return Role::Server;
-    }
-    Role::Client
+    if server { Role::Server } else { Role::Client }
 }
 
 // A refusal or violation: no message, so no items.
@@ -62,18 +61,16 @@ fn nothing(number: u8, fault: u32, next: usize) -> Finding
 fn found_in(step: Step) -> Finding
     ensures { found_words result ≡ step_words (step_as step) }
 {
-    let next = step.next;
-    match next {
-        Next::Message(m) => Finding {
+    match step.next {
+        Ok(message) => Finding {
             number: 0,
             fault: 0,
             next: step.place,
-            items: items_of(m),
+            items: items_of(message),
         },
-        Next::Refused(refusal) => nothing(refusal.number(), 0, step.place),
-        Next::Violated(fault) => {
-            let violation = fault.violation;
-            nothing(violation.number(), fault.place(), step.place)
+        Err(Failure::Refused(refusal)) => nothing(refusal.number(), 0, step.place),
+        Err(Failure::Violated(fault)) => {
+            nothing(fault.violation.number(), fault.place(), step.place)
         }
     }
 }

@@ -10,10 +10,7 @@ use wire::Message;
 fn flag(set: bool, worth: u64) -> u64
     ensures { (result ≡ weight worth set) × (result ≤ worth) }
 {
-    if set {
-        return worth;
-    }
-    0
+    if set { worth } else { 0 }
 }
 
 // The items of a message that pertains to the connection as a whole.

@@ -5,9 +5,10 @@ ghost use Rattle.std.specs.Prelude.{◌≡◌};
 ghost use Rattle.capture_rules.specs.Place.{step_at, next_as, step_as};
 ghost use Rattle.capture_reader.specs.Capture.{first_place, reader_at_first, advanced};
 
-use capture_rules::{Next, Step};
+use capture_rules::Step;
 use capture_step::next_at;
-use wire::Role;
+use refusal::Failure;
+use wire::{Message, Role};
 
 // The place of the first message, behind the connection header, which is not read here.
 pub const FIRST_PLACE: usize = 8;
@@ -31,7 +32,7 @@ impl<'a> Reader<'a> {
     }
 
     // What is at the reader's place, from this sender; the reader moves past a message, and stays at its place after a refusal.
-    pub fn next(&mut self, from: Role) -> Next
+    pub fn next(&mut self, from: Role) -> Result<Message, Failure>
         ensures { (next_as result, self.new) ≡ advanced from self.old }
     {
         let step = next_at(self.capture, from, self.place);

@@ -1,6 +1,8 @@
 -- A tally with what is at its place, and with all that is read from its place on: what the code's answers are, and that one step more
 -- leaves the same to come to.
-use Rattle.std.proofs.Common.{◌≡◌, ℕ, ◌+◌, ◌-◌, ◌%◌, ◌^◌, ◌<◌, List, [], ◌∷◌, length, sym, refl, ap, ◌∙◌, subst, zero-add, arith}
+use Rattle.std.proofs.Common.{◌≡◌, ℕ, ◌+◌, ◌-◌, ◌%◌, ◌^◌, ◌<◌, ◌≤◌, Err, List, [], ◌∷◌, length, sym, refl, ap, ◌∙◌, subst, zero-add, arith}
+use Rattle.refusal.specs.declared.Failure.{Failure}
+use Rattle.refusal.specs.declared.Failure.TheVariants.{Refused, Violated}
 use Rattle.laws.specs.Result.{fault, Result, ok, refused, violation}
 use Rattle.laws.proofs.Results.{refused_not_ok, violation_not_ok}
 use Rattle.wire.specs.declared.Role.{Role}
@@ -20,6 +22,12 @@ use Rattle.capture_scan.specs.Tallies.{with_result, completed, empty_tally}
 -- a sum in 64 bits of one in 64 bits
 sum_again : (a b c : ℕ) → ((a + b) % 2 ^ 64 + c) % 2 ^ 64 ≡ (a + (b + c)) % 2 ^ 64
 sum_again a b c = omega arith
+
+-- a failure is no message, and keeps its place
+pub failure_stays : (t : Tally) (f : Failure) → t.messages ≤ t.place
+    → (with_result t (next_as (Err f))).messages ≤ (with_result t (next_as (Err f))).place
+failure_stays t (Refused r) h = omega arith
+failure_stays t (Violated v) h = omega arith
 
 module _ (from : Role) (s : List ℕ) (t : Tally) where
   abbrev here : Result Message

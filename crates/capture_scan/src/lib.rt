@@ -1,9 +1,9 @@
 // All messages of a capture, counted and summed, for programs in C and Rust.
 #![tactic(auto)]
 
-ghost use Rattle.std.specs.Prelude.{◌≡◌, ◌≤◌};
+ghost use Rattle.std.specs.Prelude.{◌≡◌, ◌≤◌, Err};
 ghost use Rattle.laws.specs.Result.{fault, violation};
-ghost use Rattle.capture_rules.specs.Place.{message_at};
+ghost use Rattle.capture_rules.specs.Place.{message_at, next_as};
 ghost use Rattle.capture_reader.specs.Capture.{first_place};
 ghost use Rattle.capture_export.specs.Words.{sender_of};
 ghost use Rattle.capture_scan.specs.Scan.{packed, all_words};
@@ -11,11 +11,12 @@ ghost use Rattle.capture_scan.specs.Tallies.{with_result, completed, empty_tally
 
 use capture_export::{items_of, sender};
 use capture_reader::{FIRST_PLACE, read_at};
-use capture_rules::Next;
+use refusal::Failure;
 use wire::{Message, Role};
 
 // What was read up to a place; the number is 0 while reading goes on.
-#[derive(Clone, Copy)]
+// Kept: these are the five words that programs in C get from `jmux_read_all`.
+#[derive(Clone, Copy, Debug, PartialEq, Eq)]
 pub struct Tally {
     pub number: u64,
     pub fault: u64,
@@ -39,9 +40,17 @@ fn stopped(t: Tally, number: u8, offset: u32) -> Tally
     Tally {
         number: number as u64,
         fault: offset as u64,
-        place: t.place,
-        messages: t.messages,
-        sum: t.sum,
+        ..t
+    }
+}
+
+// The tally with a failure at its place.
+fn failed(t: Tally, failure: Failure) -> Tally
+    ensures { result ≡ with_result t (next_as (Err failure)) }
+{
+    match failure {
+        Failure::Refused(refusal) => stopped(t, refusal.number(), 0),
+        Failure::Violated(fault) => stopped(t, fault.violation.number(), fault.place()),
     }
 }
 
@@ -51,20 +60,15 @@ fn with_next(capture: &[u8], from: Role, t: Tally) -> Tally
     ensures { (result ≡ with_result t (message_at from capture.now t.place)) × (result.messages ≤ result.place) }
 {
     let step = read_at(capture, from, t.place);
-    let next = step.next;
-    match next {
-        Next::Message(m) => Tally {
+    match step.next {
+        Ok(m) => Tally {
             number: 0,
             fault: 0,
             place: step.place,
             messages: t.messages + 1,
-            sum: std::num::wrapping_add_u64(t.sum, packed_items(m)),
+            sum: t.sum.wrapping_add(packed_items(m)),
         },
-        Next::Refused(refusal) => stopped(t, refusal.number(), 0),
-        Next::Violated(fault) => {
-            let violation = fault.violation;
-            stopped(t, violation.number(), fault.place())
-        }
+        Err(failure) => failed(t, failure),
     }
 }
 

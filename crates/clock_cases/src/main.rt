@@ -1,28 +1,25 @@
 // Runs the ping clock on case 7 and at the ends of each range, and writes a line for each answer.
 #![tactic(auto)]
 
-use clock_limit::{Limit, Setting, limit_of};
-use clock_sample::{Clock, SampleAnswer};
-use std::io;
+use clock_limit::{Setting, limit_of};
+use clock_sample::{BadValue, Clock, with_sample};
+use std::{fmt, io};
 
-fn text(rt: &impl Print, bytes: &[u8]) -> io::Result<()> {
-    rt.write_all(bytes)
-}
+// A size with three decimals, cut off; or 'large' for NaN, for -0.001 and below, and from 2 ^ 64 thousandths up.
+#[derive(Clone, Copy)]
+struct Size(f64);
 
-// Writes a size with three decimals, cut off; or 'large' for NaN, for -0.001 and below, and from 2 ^ 64 thousandths up.
-fn write_size(rt: &impl Print, size: f64) -> io::Result<()> {
-    let thousandths = size * 1000.0;
-    if thousandths > -1.0 {
-        if thousandths < 18446744073709551616.0 {
-            let count = std::num::truncating_f64_to_u64(thousandths);
-            rt.print(count / 1000)?;
-            text(rt, b".")?;
-            rt.print(count / 100 % 10)?;
-            rt.print(count / 10 % 10)?;
-            return rt.print(count % 10);
+impl fmt::Display for Size {
+    fn fmt<W: fmt::Write>(&self, f: &mut fmt::Formatter<W>) -> fmt::Result {
+        let thousandths = self.0 * 1000.0;
+        if thousandths > -1.0 {
+            if thousandths < 18446744073709551616.0 {
+                let count = std::num::truncating_f64_to_u64(thousandths);
+                return write!(f, "{}.{:03}", count / 1000, count % 1000);
+            }
         }
+        write!(f, "large")
     }
-    text(rt, b"large")
 }
 
 // The 64 bits that hold a number; 0 for NaN, which has no bits of its own.
@@ -30,77 +27,73 @@ fn bits(x: f64) -> u64 {
     if x == x { f64::to_bits(x) } else { 0 }
 }
 
-// Writes a number: its value, and its bits.
-fn write_number(rt: &impl Print, x: f64) -> io::Result<()> {
-    if x != x {
-        return text(rt, b"NaN");
+// A number: its value, and its bits.
+#[derive(Clone, Copy)]
+struct Number(f64);
+
+impl fmt::Display for Number {
+    fn fmt<W: fmt::Write>(&self, f: &mut fmt::Formatter<W>) -> fmt::Result {
+        let x = self.0;
+        if x != x {
+            write!(f, "NaN")
+        } else if x < 0.0 {
+            write!(f, "-{} ({:016x})", Size(-x), bits(x))
+        } else {
+            write!(f, "{} ({:016x})", Size(x), bits(x))
+        }
     }
-    if x < 0.0 {
-        text(rt, b"-")?;
-        write_size(rt, -x)?;
-    } else {
-        write_size(rt, x)?;
-    }
-    text(rt, b" (")?;
-    print!(rt; "{:016x}", bits(x))?;
-    text(rt, b")")
 }
 
-// Writes a clock: whether a sample has come, the smoothed time and the deviation.
-fn write_clock(rt: &impl Print, clock: Clock) -> io::Result<()> {
-    if clock.sampled {
-        text(rt, b"sampled ")?;
-    } else {
-        text(rt, b"unsampled ")?;
+// A clock: whether a sample has come, the smoothed time and the deviation.
+#[derive(Clone, Copy)]
+struct State(Clock);
+
+impl fmt::Display for State {
+    fn fmt<W: fmt::Write>(&self, f: &mut fmt::Formatter<W>) -> fmt::Result {
+        let Clock {
+            sampled,
+            smoothed,
+            deviation,
+        } = self.0;
+        let name = if sampled { "sampled" } else { "unsampled" };
+        write!(f, "{name} {} {}", Number(smoothed), Number(deviation))
     }
-    write_number(rt, clock.smoothed)?;
-    text(rt, b" ")?;
-    write_number(rt, clock.deviation)
 }
 
 // Passes a clock to the sampler, writes the answer and the clock afterwards, and returns that clock.
 fn sample(rt: &impl Print, clock: Clock, r: u32) -> io::Result<Clock> {
-    let update = clock_sample::with_sample(clock, r);
-    let outcome = update.outcome;
-    let after = update.clock;
-    write_clock(rt, clock)?;
-    text(rt, b", sample ")?;
-    rt.print(r as u64)?;
-    match outcome {
-        SampleAnswer::Taken => text(rt, b": taken, ")?,
-        SampleAnswer::BadValue => text(rt, b": refused 12, ")?,
-    }
-    write_clock(rt, after)?;
-    text(rt, b"\n")?;
+    let update = with_sample(clock, r);
+    let outcome = match update {
+        Ok(_) => "taken",
+        Err(BadValue) => "refused 12",
+    };
+    let after = update.unwrap_or(clock);
+    println!(rt; "{}, sample {r}: {outcome}, {}", State(clock), State(after))?;
     Ok(after)
 }
 
-fn write_limit(rt: &impl Print, limit: Limit) -> io::Result<()> {
+// Writes a limit, or that it is refused, at the end of a line.
+fn write_limit(rt: &impl Print, limit: Result<f64, BadValue>) -> io::Result<()> {
     match limit {
-        Limit::Milliseconds(x) => {
-            text(rt, b": ")?;
-            write_number(rt, x)?;
-        }
-        Limit::BadValue => text(rt, b": refused 12")?,
+        Ok(x) => println!(rt; ": {}", Number(x)),
+        Err(BadValue) => println!(rt; ": refused 12"),
     }
-    text(rt, b"\n")
 }
 
 // Writes the limit of a clock under a fixed setting.
 fn fixed(rt: &impl Print, clock: Clock, x: f64) -> io::Result<()> {
-    write_clock(rt, clock)?;
-    text(rt, b", fixed ")?;
-    write_number(rt, x)?;
+    print!(rt; "{}, fixed {}", State(clock), Number(x))?;
     write_limit(rt, limit_of(clock, Setting::Fixed { limit: x }))
 }
 
 // Writes the limit of a clock under a measured setting.
 fn measured(rt: &impl Print, clock: Clock, floor: f64, ceiling: f64) -> io::Result<()> {
-    write_clock(rt, clock)?;
-    text(rt, b", from ")?;
-    write_number(rt, floor)?;
-    text(rt, b" to ")?;
-    write_number(rt, ceiling)?;
+    print!(rt;
+        "{}, from {} to {}",
+        State(clock),
+        Number(floor),
+        Number(ceiling)
+    )?;
     write_limit(rt, limit_of(clock, Setting::Measured { floor, ceiling }))
 }
 
@@ -126,30 +119,26 @@ fn later(rt: &impl Print, smoothed: f64, deviation: f64, r: u32) -> io::Result<(
 }
 
 fn case_7(rt: &impl Print) -> io::Result<()> {
-    text(rt, b"case 7\n")?;
+    rt.println("case 7")?;
     let mut clock = Clock::new();
-    clock = sample(rt, clock, 100)?;
-    measured(rt, clock, 1.0, 60000.0)?;
-    clock = sample(rt, clock, 100)?;
-    measured(rt, clock, 1.0, 60000.0)?;
-    clock = sample(rt, clock, 180)?;
-    measured(rt, clock, 1.0, 60000.0)
+    for r in [100, 100, 180] {
+        clock = sample(rt, clock, r)?;
+        measured(rt, clock, 1.0, 60000.0)?;
+    }
+    Ok(())
 }
 
 fn first_samples(rt: &impl Print) -> io::Result<()> {
-    text(rt, b"first samples\n")?;
-    let new = Clock::new();
-    sample(rt, new, 0)?;
-    sample(rt, new, 1)?;
-    sample(rt, new, 60000)?;
-    sample(rt, new, 60001)?;
-    sample(rt, new, 4294967295)?;
+    rt.println("first samples")?;
+    for r in [0, 1, 60000, 60001, u32::MAX] {
+        sample(rt, Clock::new(), r)?;
+    }
     sample(rt, unsampled(60000.0, 60000.0), 7)?;
     Ok(())
 }
 
 fn later_samples(rt: &impl Print) -> io::Result<()> {
-    text(rt, b"later samples\n")?;
+    rt.println("later samples")?;
     later(rt, 60000.0, 60000.0, 0)?;
     later(rt, 60000.0, 60000.0, 60000)?;
     later(rt, 0.0, 0.0, 60000)?;
@@ -161,18 +150,16 @@ fn later_samples(rt: &impl Print) -> io::Result<()> {
 }
 
 fn run_of_samples(rt: &impl Print) -> io::Result<()> {
-    text(rt, b"a run of samples\n")?;
+    rt.println("a run of samples")?;
     let mut clock = Clock::new();
-    clock = sample(rt, clock, 17)?;
-    clock = sample(rt, clock, 23)?;
-    clock = sample(rt, clock, 1999)?;
-    clock = sample(rt, clock, 60001)?;
-    clock = sample(rt, clock, 3)?;
+    for r in [17, 23, 1999, 60001, 3] {
+        clock = sample(rt, clock, r)?;
+    }
     measured(rt, clock, 1.0, 60000.0)
 }
 
 fn bad_states(rt: &impl Print, nan: f64, infinity: f64) -> io::Result<()> {
-    text(rt, b"bad states\n")?;
+    rt.println("bad states")?;
     later(rt, nan, 0.0, 100)?;
     later(rt, 0.0, nan, 100)?;
     later(rt, infinity, 0.0, 100)?;
@@ -183,7 +170,7 @@ fn bad_states(rt: &impl Print, nan: f64, infinity: f64) -> io::Result<()> {
 }
 
 fn bad_states_judged_too(rt: &impl Print, nan: f64, infinity: f64) -> io::Result<()> {
-    text(rt, b"bad states, no sample or a fixed limit\n")?;
+    rt.println("bad states, no sample or a fixed limit")?;
     sample(rt, unsampled(nan, 0.0), 100)?;
     fixed(rt, unsampled(-1.0, 0.0), 500.0)?;
     fixed(rt, sampled(0.0, nan), 500.0)?;
@@ -191,7 +178,7 @@ fn bad_states_judged_too(rt: &impl Print, nan: f64, infinity: f64) -> io::Result
 }
 
 fn measured_limits(rt: &impl Print) -> io::Result<()> {
-    text(rt, b"measured limits\n")?;
+    rt.println("measured limits")?;
     let new = Clock::new();
     measured(rt, new, 1.0, 60000.0)?;
     measured(rt, new, 2000.0, 3000.0)?;
@@ -205,7 +192,7 @@ fn measured_limits(rt: &impl Print) -> io::Result<()> {
 }
 
 fn fixed_limits(rt: &impl Print, nan: f64, infinity: f64) -> io::Result<()> {
-    text(rt, b"fixed limits\n")?;
+    rt.println("fixed limits")?;
     let new = Clock::new();
     fixed(rt, new, 1.0)?;
     fixed(rt, sampled(100.0, 50.0), 60000.0)?;
@@ -218,7 +205,7 @@ fn fixed_limits(rt: &impl Print, nan: f64, infinity: f64) -> io::Result<()> {
 }
 
 fn bad_floors_and_ceilings(rt: &impl Print, nan: f64, infinity: f64) -> io::Result<()> {
-    text(rt, b"bad floors and ceilings\n")?;
+    rt.println("bad floors and ceilings")?;
     let new = Clock::new();
     measured(rt, new, 0.5, 60000.0)?;
     measured(rt, new, 1.0, 60001.0)?;

@@ -1,5 +1,5 @@
 -- The limit for a ping, in milliseconds, that a clock gives under a setting.
-use Rattle.std.specs.Prelude.{Bool, ◌&&◌, Float}
+use Rattle.std.specs.Prelude.{Bool, ◌&&◌, Float, Result as Returned, Ok, Err}
 use Rattle.std.specs.Float.Ieee.{le}
 use Rattle.laws.specs.Pick.{pick}
 use Rattle.laws.specs.Result.{Result, ok, refused}
@@ -7,11 +7,10 @@ use Rattle.refusal.specs.Number.{refusal_number}
 use Rattle.refusal.specs.declared.Refusal.TheVariants as refusal
 use Rattle.clock_numbers.specs.Arithmetic.{◌⊕◌, ◌⊗◌, whole_number, within, larger, held}
 use Rattle.clock_sample.specs.declared.Clock.{Clock}
+use Rattle.clock_sample.specs.declared.BadValue.{BadValue}
 use Rattle.clock_sample.specs.Clock.{good_clock}
 use Rattle.clock_limit.specs.declared.Setting.{Setting}
 use Rattle.clock_limit.specs.declared.Setting.TheVariants.{Fixed, Measured}
-use Rattle.clock_limit.specs.declared.Limit.{Limit}
-use Rattle.clock_limit.specs.declared.Limit.TheVariants.{Milliseconds, BadValue}
 
 -- every number from 1 to 60,000, floor not above ceiling
 unfoldable pub good_setting : Setting → Bool
@@ -32,6 +31,6 @@ unfoldable pub limit_rule : Clock → Setting → Result Float
 limit_rule clock setting = pick (good_clock clock && good_setting setting) (ok (limit_under setting clock)) (refused 12)
 
 -- each case of the answer in the terms of docs/PROTOCOL.md, "The ping clock"
-abbrev pub limit_result : Limit → Result Float
-limit_result (Milliseconds limit) = ok limit
-limit_result BadValue = refused (refusal_number refusal.BadValue)
+abbrev pub limit_result : Returned Float BadValue → Result Float
+limit_result (Ok limit) = ok limit
+limit_result (Err e) = refused (refusal_number refusal.BadValue)

@@ -1,25 +1,17 @@
 // The limit for a ping: fixed, or measured by a ping clock and held between a floor and a ceiling.
-#![tactic(auto)]
+#![tactic(auto, unfolding(laws::specs::Pick::pick))]
 
 ghost use Rattle.std.specs.Prelude.{◌≡◌};
 ghost use Rattle.clock_limit.specs.Limit.{good_setting, measured, limit_under, limit_rule, limit_result};
 
 use clock_numbers::{held, larger, within};
-use clock_sample::Clock;
+use clock_sample::{BadValue, Clock};
 
 // Where the limit for a ping comes from: it is fixed, or measured and held between a floor and a ceiling.
 #[derive(Clone, Copy)]
 pub enum Setting {
     Fixed { limit: f64 },
     Measured { floor: f64, ceiling: f64 },
-}
-
-// What `limit_of` answers.
-#[derive(Clone, Copy)]
-pub enum Limit {
-    Milliseconds(f64),
-    // The clock's state or the setting is out of its range.
-    BadValue,
 }
 
 impl Setting {
@@ -30,10 +22,7 @@ impl Setting {
         match self {
             Setting::Fixed { limit } => within(1.0, 60000.0, limit),
             Setting::Measured { floor, ceiling } => {
-                let low = within(1.0, 60000.0, floor);
-                let high = within(1.0, 60000.0, ceiling);
-                let order = floor <= ceiling;
-                low & high & order
+                within(1.0, 60000.0, floor) && within(1.0, 60000.0, ceiling) && floor <= ceiling
             }
         }
     }
@@ -60,15 +49,14 @@ fn limit_under(clock: Clock, setting: Setting) -> f64
     }
 }
 
-// The limit for a ping.
-pub fn limit_of(clock: Clock, setting: Setting) -> Limit
+// The limit for a ping, in milliseconds.
+#[tactic(auto, unfolding(laws::specs::Pick::pick, crate::specs::Limit::limit_rule))]
+pub fn limit_of(clock: Clock, setting: Setting) -> Result<f64, BadValue>
     ensures { limit_result result ≡ limit_rule clock setting }
 {
-    let good_clock = clock.is_good();
-    let good_setting = setting.is_good();
-    if good_clock & good_setting {
-        Limit::Milliseconds(limit_under(clock, setting))
+    if clock.is_good() && setting.is_good() {
+        Ok(limit_under(clock, setting))
     } else {
-        Limit::BadValue
+        Err(BadValue)
     }
 }

@@ -1,5 +1,4 @@
 -- The laws of the ping clock.
-pub mod Tests
 pub mod Answers
 pub mod State
 pub mod Refusals

@@ -1,14 +1,12 @@
 -- The ping clock, and how a sample R changes it. The smoothed time and the deviation are in milliseconds.
-use Rattle.std.specs.Prelude.{ℕ, Bool, true, false, ◌&&◌, leb, Float}
+use Rattle.std.specs.Prelude.{ℕ, Bool, true, false, ◌&&◌, leb, Float, Result as Returned, Ok, Err}
 use Rattle.laws.specs.Pick.{pick}
 use Rattle.laws.specs.Result.{Result, ok, refused}
 use Rattle.refusal.specs.Number.{refusal_number}
 use Rattle.refusal.specs.declared.Refusal.TheVariants as refusal
 use Rattle.clock_numbers.specs.Arithmetic.{◌⊕◌, ◌⊗◌, ◌⊘◌, whole_number, 0·75, 0·25, 0·875, 0·125, within, distance}
 use Rattle.clock_sample.specs.declared.Clock.{Clock}
-use Rattle.clock_sample.specs.declared.SampleAnswer.{SampleAnswer}
-use Rattle.clock_sample.specs.declared.SampleAnswer.TheVariants.{Taken, BadValue}
-use Rattle.clock_sample.specs.declared.Update.{Update}
+use Rattle.clock_sample.specs.declared.BadValue.{BadValue}
 
 -- no sample has come
 unfoldable pub new_clock : Clock
@@ -41,9 +39,11 @@ unfoldable pub sample_rule : Clock → ℕ → Result Unit × Clock
 sample_rule clock R = pick (good_clock clock && good_sample R) (ok tt, updated clock (whole_number R)) (refused 12, clock)
 
 -- each case of the answer in the terms of docs/PROTOCOL.md, "The ping clock"
-abbrev pub outcome_result : SampleAnswer → Result Unit
-outcome_result Taken = ok tt
-outcome_result BadValue = refused (refusal_number refusal.BadValue)
+abbrev pub outcome_result : Returned Unit BadValue → Result Unit
+outcome_result (Ok u) = ok tt
+outcome_result (Err e) = refused (refusal_number refusal.BadValue)
 
-abbrev pub update_result : Update → Result Unit × Clock
-update_result update = (outcome_result update.outcome, update.clock)
+-- the same by value: the clock after the sample, or the one that was passed
+abbrev pub update_result : Clock → Returned Clock BadValue → Result Unit × Clock
+update_result clock (Ok after) = (ok tt, after)
+update_result clock (Err e) = (refused (refusal_number refusal.BadValue), clock)

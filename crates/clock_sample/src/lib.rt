@@ -1,5 +1,5 @@
 // The ping clock: a smoothed round-trip time and its deviation, by the arithmetic of RFC 6298.
-#![tactic(auto)]
+#![tactic(auto, unfolding(laws::specs::Pick::pick))]
 
 mod sampler;
 
@@ -10,6 +10,7 @@ use clock_numbers::{distance, within};
 pub use sampler::{take_sample, with_sample};
 
 // The smoothed time and the deviation are in milliseconds.
+// Kept: both numbers are judged before any sample too, so every clock has them beside the flag.
 #[derive(Clone, Copy)]
 pub struct Clock {
     // Whether a sample has come.
@@ -18,20 +19,9 @@ pub struct Clock {
     pub deviation: f64,
 }
 
-// The answer to a sample.
-#[derive(Clone, Copy)]
-pub enum SampleAnswer {
-    Taken,
-    // The clock's state or the sample is out of its range.
-    BadValue,
-}
-
-// The answer to a sample, and the clock after it: a refusal leaves the clock as it was.
-#[derive(Clone, Copy)]
-pub struct Update {
-    pub outcome: SampleAnswer,
-    pub clock: Clock,
-}
+// The refusal that a clock knows: its state, a sample or a setting is out of its range.
+#[derive(Clone, Copy, Debug, PartialEq, Eq)]
+pub struct BadValue;
 
 impl Clock {
     // A clock before any sample.
@@ -49,9 +39,7 @@ impl Clock {
     pub fn is_good(self) -> bool
         ensures { result ≡ good_clock self }
     {
-        let smoothed = within(0.0, 60000.0, self.smoothed);
-        let deviation = within(0.0, 60000.0, self.deviation);
-        smoothed & deviation
+        within(0.0, 60000.0, self.smoothed) && within(0.0, 60000.0, self.deviation)
     }
 
     // The clock after its first sample.
@@ -65,17 +53,19 @@ impl Clock {
         }
     }
 
-    // The clock after a later sample. The deviation is computed first, because it needs the smoothed time from before the sample.
-    fn later(mut self, r: f64) -> Clock
+    // The clock after a later sample. The deviation needs the smoothed time from before the sample.
+    fn later(self, r: f64) -> Clock
         ensures { result ≡ later self r }
     {
-        self.deviation = 0.75 * self.deviation + 0.25 * distance(self.smoothed, r);
-        self.smoothed = 0.875 * self.smoothed + 0.125 * r;
-        self.sampled = true;
-        self
+        Clock {
+            sampled: true,
+            smoothed: 0.875 * self.smoothed + 0.125 * r,
+            deviation: 0.75 * self.deviation + 0.25 * distance(self.smoothed, r),
+        }
     }
 
     // The clock after a sample of r milliseconds, first or later.
+    #[tactic(auto, unfolding(laws::specs::Pick::pick, crate::specs::Clock::updated))]
     fn updated(self, r: f64) -> Clock
         ensures { result ≡ updated self r }
     {
@@ -86,22 +76,15 @@ impl Clock {
         }
     }
 
-    // The update by value: the answer to a sample in milliseconds, and the clock after it.
-    pub fn update(self, sample: u32) -> Update
-        ensures { update_result result ≡ sample_rule self sample }
+    // The update by value: the clock after a sample in milliseconds.
+    #[tactic(auto, unfolding(laws::specs::Pick::pick, crate::specs::Clock::sample_rule, clock_numbers::specs::Arithmetic::whole_number))]
+    pub fn update(self, sample: u32) -> Result<Clock, BadValue>
+        ensures { update_result self result ≡ sample_rule self sample }
     {
-        let good = self.is_good();
-        let in_range = sample <= 60000;
-        if good & in_range {
-            Update {
-                outcome: SampleAnswer::Taken,
-                clock: self.updated(sample as f64),
-            }
+        if self.is_good() && sample <= 60000 {
+            Ok(self.updated(f64::from(sample)))
         } else {
-            Update {
-                outcome: SampleAnswer::BadValue,
-                clock: self,
-            }
+            Err(BadValue)
         }
     }
 }

@@ -1,10 +1,10 @@
 -- A connection with one part set is what the effect that sets this part leaves.
+use Rattle.std.specs.Prelude.{Option, ℕ}
 use mathlib.Core.Path.{◌≡◌, sym, ap}
 use mathlib.Core.List.{List}
 use lib.Seq.{set-get_or}
 use Rattle.state.specs.declared.Session.{Session}
 use Rattle.state.specs.declared.Stage.{Stage}
-use Rattle.state.specs.declared.Ping.{Ping}
 use Rattle.state.specs.declared.Connection.{Connection}
 use Rattle.state.specs.New.{blank}
 use Rattle.protocol.specs.Connection.{Cause, ended}
@@ -15,7 +15,7 @@ module _ (c : Connection) (r : Report) (outs : List Output) where
   pub sets_stage : (s : Stage) → with_stage s c ≡ commit c (setting_stage c s r outs)
   sets_stage s = ap (λ (l : List Session). with_stage s (with_sessions l c)) (sym (set-get_or c.sessions 0 blank))
 
-  pub sets_ping : (p : Ping) → with_ping p c ≡ commit c (setting_ping c p r outs)
+  pub sets_ping : (p : Option ℕ) → with_ping p c ≡ commit c (setting_ping c p r outs)
   sets_ping p = ap (λ (l : List Session). with_ping p (with_sessions l c)) (sym (set-get_or c.sessions 0 blank))
 
   pub sets_end : (cause : Cause) → ended cause c ≡ commit c (ends_by c cause r outs)

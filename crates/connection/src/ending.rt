@@ -1,6 +1,6 @@
 // How a connection ends, and what becomes of its sessions.
 ghost use Rattle.std.specs.Prelude.{◌≡◌, map};
-ghost use Rattle.protocol.specs.Connection.{unless_sent, unless_finished, ending as connection_ending, ended as connection_ended};
+ghost use Rattle.protocol.specs.Connection.{unless_sent, unless_finished, ending, ended as connection_ended};
 ghost use Rattle.connection.specs.Cause.{cause_as};
 
 use crate::Cause;
@@ -12,9 +12,8 @@ fn unless_sent(sides: Sides) -> Outcome
     ensures { result ≡ unless_sent sides }
 {
     match sides {
-        Sides::Idle => Outcome::MustNotRetry,
         Sides::Opening(_) => Outcome::MayRetry,
-        Sides::Live(_, _) => Outcome::MustNotRetry,
+        Sides::Idle | Sides::Live(_, _) => Outcome::MustNotRetry,
     }
 }
 
@@ -22,61 +21,31 @@ fn unless_sent(sides: Sides) -> Outcome
 fn unless_finished(sides: Sides) -> Outcome
     ensures { result ≡ unless_finished sides }
 {
-    let otherwise = unless_sent(sides);
     match sides {
-        Sides::Idle => otherwise,
-        Sides::Opening(_) => otherwise,
-        Sides::Live(_, theirs) => match theirs {
-            Side::Open => otherwise,
-            Side::Finished => Outcome::Complete,
-            Side::Ended => otherwise,
-        },
-    }
-}
-
-// What becomes of a session when the connection ends.
-fn ending(cause: Cause, x: Session) -> Session
-    ensures { result ≡ connection_ending (cause_as cause) x }
-{
-    let sides = x.sides;
-    let by_error = unless_finished(sides);
-    let by_lost_line = unless_sent(sides);
-    match cause {
-        Cause::ShutdownReceived => settled(x, Outcome::MayRetry),
-        Cause::ErrorReceived => settled(x, by_error),
-        Cause::OwnShutdown => x,
-        Cause::LineLost => settled(x, by_lost_line),
+        Sides::Live(_, Side::Finished) => Outcome::Complete,
+        _ => unless_sent(sides),
     }
 }
 
 // What becomes of a session when the connection ends.
 pub fn ended_session(cause: Cause, x: Session) -> Session
-    ensures { result ≡ connection_ending (cause_as cause) x }
+    ensures { result ≡ ending (cause_as cause) x }
 {
-    ending(cause, x)
-}
-
-fn end_all(table: [Session; 128], cause: Cause) -> [Session; 128]
-    ensures { result ≡ map (connection_ending (cause_as cause)) table }
-{
-    let mut next = table;
-    let mut i: usize = 0;
-    while i < 128 {
-        let x = next[i];
-        next[i] = ending(cause, x);
-        i += 1;
+    match cause {
+        Cause::ShutdownReceived => settled(x, Outcome::MayRetry),
+        Cause::ErrorReceived => settled(x, unless_finished(x.sides)),
+        Cause::OwnShutdown => x,
+        Cause::LineLost => settled(x, unless_sent(x.sides)),
     }
-    next
 }
 
 // The connection, ended by a cause.
 pub fn ended(c: Connection, cause: Cause) -> Connection
     ensures { result ≡ connection_ended (cause_as cause) c }
 {
-    let table = c.sessions;
-    let all = end_all(table, cause);
-    let mut next = c;
-    next.sessions = all;
-    next.over = true;
-    next
+    Connection {
+        sessions: c.sessions.map(|x| ended_session(cause, x)),
+        over: true,
+        ..c
+    }
 }

@@ -10,7 +10,7 @@ pub use stages::{exchanged, far_start, own_start, role_of};
 pub use table::{session_at, with_session};
 
 // What ends a connection.
-#[derive(Clone, Copy)]
+#[derive(Clone, Copy, Debug, PartialEq, Eq)]
 pub enum Cause {
     ShutdownReceived,
     ErrorReceived,

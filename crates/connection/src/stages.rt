@@ -10,9 +10,8 @@ pub fn role_of(stage: Stage) -> Role
     ensures { result ≡ role_of stage }
 {
     match stage {
-        Stage::Fresh(role) => role,
+        Stage::Fresh(role) | Stage::Up(role, _) => role,
         Stage::Started => Role::Client,
-        Stage::Up(role, _) => role,
     }
 }
 
@@ -20,20 +19,15 @@ pub fn role_of(stage: Stage) -> Role
 pub fn exchanged(stage: Stage) -> bool
     ensures { result ≡ connection_exchanged stage }
 {
-    match stage {
-        Stage::Fresh(_) => false,
-        Stage::Started => false,
-        Stage::Up(_, _) => true,
-    }
+    matches!(stage, Stage::Up(_, _))
 }
 
 fn far_number(stage: Stage) -> u16
     ensures { result ≡ far_number stage }
 {
     match stage {
-        Stage::Fresh(_) => 0,
-        Stage::Started => 0,
         Stage::Up(_, far) => far,
+        Stage::Fresh(_) | Stage::Started => 0,
     }
 }
 
@@ -48,7 +42,5 @@ pub fn own_start(c: Connection) -> Ration
 pub fn far_start(c: Connection) -> Ration
     ensures { result ≡ far_start c }
 {
-    let stage = c.stage;
-    let number = far_number(stage);
-    Ration::from_header(number)
+    Ration::from_header(far_number(c.stage))
 }

@@ -9,22 +9,18 @@ use state::{Connection, Session};
 pub fn session_at(c: Connection, n: u8) -> Session
     ensures { result ≡ at c n }
 {
-    if n < 128 {
-        let i = n as usize;
-        return c.sessions[i];
+    match c.sessions.get(n as usize) {
+        Some(x) => *x,
+        None => Session::BLANK,
     }
-    Session::BLANK
 }
 
 // The connection with another session for a number; a number above 127 changes nothing.
-pub fn with_session(c: Connection, n: u8, x: Session) -> Connection
+pub fn with_session(mut c: Connection, n: u8, x: Session) -> Connection
     ensures { result ≡ with_session n x c }
 {
     if n < 128 {
-        let i = n as usize;
-        let mut next = c;
-        next.sessions[i] = x;
-        return next;
+        c.sessions[n as usize] = x;
     }
     c
 }

@@ -1,3 +1,3 @@
--- What a test of every session tells, step by step and about one of them.
+-- What the test of every session is, and what it tells about one of them.
 pub mod Sessions
 mod Tests

@@ -1,4 +1,6 @@
 -- The decision on a received message, for each of its types, from what the steps of the code ensure.
+use Rattle.std.specs.Prelude as prelude
+use Rattle.std.specs.Prelude.{None, Ok}
 use mathlib.Core.Path.{◌≡◌, refl, sym, ap, ◌∙◌}
 use mathlib.Core.Bool.{Bool, true, false, not}
 use mathlib.Core.List.{List, [], ◌∷◌, map}
@@ -10,7 +12,6 @@ use Rattle.wire.specs.declared.Message.{Message}
 use Rattle.wire.specs.declared.Message.TheVariants as msg
 use Rattle.state.specs.declared.Session.{Session}
 use Rattle.state.specs.declared.Connection.{Connection}
-use Rattle.state.specs.declared.Ping.TheVariants as ping
 use Rattle.protocol.specs.Plan.{Plan, stop, check, take, settle}
 use Rattle.protocol.specs.Message.{no_operation_of, shutdown_of, error_of, ping_of, ping_ack_of, SessionMessage, Scope, whole, of_session, scope, numbered}
 use Rattle.state.specs.New.{blank}
@@ -19,8 +20,7 @@ use Rattle.protocol.specs.Connection.{shutdown_received, error_received, at, rol
 use Rattle.protocol.specs.Judge.{Report, message, Output, sent, Effect, accept, unchanged, setting_ping, setting_session, breach_of, commit, matches, judge_scope, judge}
 use Rattle.session.specs.declared.Taken.{Taken}
 use Rattle.session.specs.Step.{sent_as}
-use Rattle.session_receive.specs.declared.Receipt.{Receipt}
-use Rattle.session_receive.specs.declared.Receipt.TheVariants as receipt
+use Rattle.refusal.specs.declared.Violation.{Violation}
 use Rattle.session_receive.specs.Receipt.{receipt_as, to_receipt}
 use Rattle.state.specs.With.{with_sessions, with_session, with_ping}
 use lib.Seq.{set-get_or}
@@ -64,7 +64,7 @@ module _ (c : Connection) where
   module _ (k : ℕ) where
     -- a PingAck, by whether it matches
     answered : Effect
-    answered = setting_ping c ping.None (message (msg.PingAck k) false) []
+    answered = setting_ping c None (message (msg.PingAck k) false) []
 
     by_match : {b : Bool} → matches c.ping k ≡ b
         → verdict c (settle (breach_of c) accept (check (not b) 28 (take answered))) ≡ verdict c (judge_scope c (msg.PingAck k) (whole (ping_ack_of k)))
@@ -72,12 +72,12 @@ module _ (c : Connection) where
     by_match e = sym (ap (λ (t : Bool). verdict c (settle (breach_of c) accept (check (not t) 28 (take answered)))) e)
 
     module _ {v : Verdict} where
-      pub acknowledged : {next : Connection} → matches c.ping k ≡ true → next ≡ with_ping ping.None c
+      pub acknowledged : {next : Connection} → matches c.ping k ≡ true → next ≡ with_ping None c
           → v ≡ took next (msg.PingAck k) false [] → v ≡ verdict c (judge_scope c (msg.PingAck k) (whole (ping_ack_of k)))
       unfolding settle answered
       acknowledged e q h =
           h
-          ∙ ap (λ (x : Connection). took x (msg.PingAck k) false []) (q ∙ sets_ping c (message (msg.PingAck k) false) [] ping.None)
+          ∙ ap (λ (x : Connection). took x (msg.PingAck k) false []) (q ∙ sets_ping c (message (msg.PingAck k) false) [] None)
           ∙ by_match e
 
       pub unasked : matches c.ping k ≡ false → v ≡ verdict c (breach_of c 28) → v ≡ verdict c (judge_scope c (msg.PingAck k) (whole (ping_ack_of k)))
@@ -104,7 +104,7 @@ module _ (c : Connection) where
           h ∙ ap (λ (a : Result rule.Taken). verdict c (judged_by c m n a)) (rw (e, f, g, i) at q)
           ∙ ap (verdict c) (by_receipt (rule.receipt (role_of c.stage) (own_start c) (far_start c) (at c n) s))
 
-      pub step_taken : {r : Receipt} {t : Taken} {next : Connection} {outs : List Output} → r ≡ receipt.Taken t
+      pub step_taken : {r : prelude.Result Taken Violation} {t : Taken} {next : Connection} {outs : List Output} → r ≡ Ok t
           → next ≡ with_session n t.session c → outs ≡ map (λ k. sent (numbered n k)) (sent_as t.sent)
           → v ≡ took next m t.late outs
           → v ≡ verdict c (judged_by c m n (receipt_as r))

@@ -4,41 +4,27 @@ ghost use Rattle.protocol.specs.Result.{answer_as};
 ghost use Rattle.connection_judge.specs.Extent.{extent_in};
 
 use crate::Extent;
+use refusal::Failure;
 use state::Answer;
 use wire_fields::body_length;
 
-// No byte of the input.
-fn none() -> Extent
-    ensures { result ≡ record { used = 0; start = 0; end = 0 } }
-{
-    Extent {
-        used: 0,
-        start: 0,
-        end: 0,
-    }
-}
-
 // A message that is taken uses 4 bytes plus its length, and its payload follows the 4 bytes; a header uses 8.
-pub fn extent_of(answer: Answer) -> Extent
+pub fn extent_of(answer: Result<Answer, Failure>) -> Extent
     ensures { result ≡ extent_in (answer_as answer) }
 {
     match answer {
-        Answer::Done => none(),
-        Answer::Served(_) => none(),
-        Answer::Header(_) => Extent {
+        Ok(Answer::Header(_)) => Extent {
             used: 8,
-            start: 0,
-            end: 0,
+            ..Extent::NONE
         },
-        Answer::Message { message, .. } => {
-            let end = 4 + (body_length(message) as usize);
+        Ok(Answer::Message { message, .. }) => {
+            let used = 4 + body_length(message) as usize;
             Extent {
-                used: end,
+                used,
                 start: 4,
-                end,
+                end: used,
             }
         }
-        Answer::Refused(_) => none(),
-        Answer::Violated(_) => none(),
+        Ok(Answer::Done | Answer::Served(_)) | Err(_) => Extent::NONE,
     }
 }

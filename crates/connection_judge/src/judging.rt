@@ -16,46 +16,42 @@ use crate::verdicts::{fault_of, taken, violated};
 use connection::{Cause, ended, far_start, own_start, role_of, session_at, with_session};
 use connection_output::{Outgoing, of_session};
 use refusal::Violation;
+use session::Taken;
 use session_receive::{
-    Receipt, receive_abort, receive_acknowledgment, receive_close, receive_data, receive_increment,
+    Data, receive_abort, receive_acknowledgment, receive_close, receive_data, receive_increment,
 };
-use state::{Connection, Ping};
+use state::Connection;
 use wire::Message;
 use wire_fields::effective_increment;
 
 // Whether a cookie is that of the outstanding ping.
-fn matches(ping: Ping, cookie: u16) -> bool
+fn matches(ping: Option<u16>, cookie: u16) -> bool
     ensures { result ≡ judge_matches ping cookie }
 {
-    match ping {
-        Ping::None => false,
-        Ping::Outstanding(asked) => asked == cookie,
-    }
+    ping == Some(cookie)
 }
 
 // A PingAck answers the outstanding ping, and then none is outstanding.
 fn judge_ping_ack(c: Connection, cookie: u16) -> Judged
     ensures { verdict_as result ≡ verdict c (judge_scope c (PingAck cookie) (whole (ping_ack_of cookie))) }
 {
-    let ping = c.ping;
-    if matches(ping, cookie) {
-        let next = c.with_ping(Ping::None);
-        return taken(next, Message::PingAck { cookie }, false, Outgoing::Nothing);
+    if matches(c.ping, cookie) {
+        let next = c.with_ping(None);
+        return taken(next, Message::PingAck { cookie }, false, None);
     }
     violated(c, fault_of(Violation::UnaskedPingAck))
 }
 
 // The decision on a message, from the step of its session.
-fn judge_receipt(c: Connection, m: Message, n: u8, receipt: Receipt) -> Judged
+fn judge_receipt(c: Connection, m: Message, n: u8, receipt: Result<Taken, Violation>) -> Judged
     ensures { verdict_as result ≡ verdict c (judged_by c m n (receipt_as receipt)) }
 {
     match receipt {
-        Receipt::Taken(t) => {
-            let x = t.session;
-            let sent = t.sent;
-            taken(with_session(c, n, x), m, t.late, of_session(n, sent))
+        Ok(t) => {
+            let reply = of_session(n, t.sent);
+            taken(with_session(c, n, t.session), m, t.late, reply)
         }
-        Receipt::Violated(violation) => violated(c, fault_of(violation)),
+        Err(violation) => violated(c, fault_of(violation)),
     }
 }
 
@@ -63,7 +59,7 @@ fn judge_receipt(c: Connection, m: Message, n: u8, receipt: Receipt) -> Judged
 fn judge_end(c: Connection, m: Message, cause: Cause) -> Judged
     ensures { verdict_as result ≡ record { connection = connection_ended (cause_as cause) c; answer = ok (message m false); outs = [] } }
 {
-    taken(ended(c, cause), m, false, Outgoing::Nothing)
+    taken(ended(c, cause), m, false, None)
 }
 
 // An IncrementRation for one session, by its effective amount.
@@ -79,8 +75,7 @@ fn judge_increment(c: Connection, m: Message, session: u8, shift: u8, increment:
 fn judge_abort(c: Connection, m: Message, session: u8, partial: bool) -> Judged
     ensures { verdict_as result ≡ verdict c (judge_scope c m (of_session session (abort_of partial))) }
 {
-    let stage = c.stage;
-    let receipt = receive_abort(role_of(stage), session_at(c, session), partial);
+    let receipt = receive_abort(role_of(c.stage), session_at(c, session), partial);
     judge_receipt(c, m, session, receipt)
 }
 
@@ -88,8 +83,7 @@ fn judge_abort(c: Connection, m: Message, session: u8, partial: bool) -> Judged
 fn judge_close(c: Connection, m: Message, session: u8) -> Judged
     ensures { verdict_as result ≡ verdict c (judge_scope c m (of_session session close_of)) }
 {
-    let stage = c.stage;
-    let receipt = receive_close(role_of(stage), session_at(c, session));
+    let receipt = receive_close(role_of(c.stage), session_at(c, session));
     judge_receipt(c, m, session, receipt)
 }
 
@@ -102,30 +96,11 @@ fn judge_acknowledgment(c: Connection, m: Message, session: u8) -> Judged
 }
 
 // Data for one session.
-fn judge_data(
-    c: Connection,
-    m: Message,
-    session: u8,
-    length: u16,
-    opens: bool,
-    close: bool,
-    eof: bool,
-) -> Judged
-    ensures { (ack : Bool) → verdict_as result ≡ verdict c (judge_scope c m (of_session session (data_of length opens close eof ack))) }
+fn judge_data(c: Connection, m: Message, session: u8, received: Data) -> Judged
+    ensures { (ack : Bool) → verdict_as result ≡ verdict c (judge_scope c m (of_session session (data_of received.length received.opens received.close received.eof ack))) }
 {
-    let stage = c.stage;
-    let role = role_of(stage);
     let x = session_at(c, session);
-    let receipt = receive_data(
-        role,
-        own_start(c),
-        far_start(c),
-        x,
-        length,
-        opens,
-        close,
-        eof,
-    );
+    let receipt = receive_data(role_of(c.stage), own_start(c), far_start(c), x, received);
     judge_receipt(c, m, session, receipt)
 }
 
@@ -135,11 +110,11 @@ pub fn judge(c: Connection, m: Message) -> Judged
     ensures { verdict_as result ≡ verdict c (judge_judge c m) }
 {
     match m {
-        Message::NoOperation { .. } => taken(c, m, false, Outgoing::Nothing),
+        Message::NoOperation { .. } => taken(c, m, false, None),
         Message::Shutdown { .. } => judge_end(c, m, Cause::ShutdownReceived),
         Message::Ping { cookie } => {
             let ack = Outgoing::Message(Message::PingAck { cookie });
-            taken(c, m, false, ack)
+            taken(c, m, false, Some(ack))
         }
         Message::PingAck { cookie } => judge_ping_ack(c, cookie),
         Message::Error { .. } => judge_end(c, m, Cause::ErrorReceived),
@@ -162,6 +137,14 @@ pub fn judge(c: Connection, m: Message) -> Judged
             session,
             length,
             ..
-        } => { judge_data(c, m, session, length, open, close, eof) }
+        } => {
+            let received = Data {
+                length,
+                opens: open,
+                close,
+                eof,
+            };
+            judge_data(c, m, session, received)
+        }
     }
 }

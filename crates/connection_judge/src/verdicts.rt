@@ -19,8 +19,8 @@ pub fn incomplete(c: Connection) -> Judged
 {
     Judged {
         connection: c,
-        answer: Answer::Refused(Refusal::Incomplete),
-        reply: Reply::Only(Outgoing::Nothing),
+        answer: Err(Refusal::Incomplete.into()),
+        reply: Reply::Only(None),
     }
 }
 
@@ -30,8 +30,9 @@ fn error_after(stage: Stage, own: u16) -> Reply
 {
     match stage {
         Stage::Fresh(_) => Reply::HeaderError(own),
-        Stage::Started => Reply::Only(Outgoing::Message(Message::Error { length: 0 })),
-        Stage::Up(_, _) => Reply::Only(Outgoing::Message(Message::Error { length: 0 })),
+        Stage::Started | Stage::Up(_, _) => {
+            Reply::Only(Some(Outgoing::Message(Message::Error { length: 0 })))
+        }
     }
 }
 
@@ -39,13 +40,10 @@ fn error_after(stage: Stage, own: u16) -> Reply
 pub fn violated(c: Connection, fault: Fault) -> Judged
     ensures { verdict_as result ≡ verdict c (breach c (fault_as fault)) }
 {
-    let stage = c.stage;
-    let reply = error_after(stage, c.own);
-    let next = ended(c, Cause::LineLost);
     Judged {
-        connection: next,
-        answer: Answer::Violated(fault),
-        reply,
+        connection: ended(c, Cause::LineLost),
+        answer: Err(fault.into()),
+        reply: error_after(c.stage, c.own),
     }
 }
 
@@ -53,25 +51,20 @@ pub fn violated(c: Connection, fault: Fault) -> Judged
 pub(crate) fn fault_of(violation: Violation) -> Fault
     ensures { fault_as result ≡ fault_of (violation_number violation) }
 {
-    if violation.number() == 25 {
-        return Fault {
-            violation,
-            offset: 1,
-        };
-    }
-    Fault {
-        violation,
-        offset: 2,
-    }
+    let offset = match violation {
+        Violation::WrongState => 1,
+        _ => 2,
+    };
+    Fault { violation, offset }
 }
 
 // A message is taken; `c` is the connection after it.
-pub(crate) fn taken(c: Connection, m: Message, late: bool, reply: Outgoing) -> Judged
+pub(crate) fn taken(c: Connection, m: Message, late: bool, reply: Option<Outgoing>) -> Judged
     ensures { verdict_as result ≡ record { connection = c; answer = ok (message m late); outs = outs_as reply } }
 {
     Judged {
         connection: c,
-        answer: Answer::Message { message: m, late },
+        answer: Ok(Answer::Message { message: m, late }),
         reply: Reply::Only(reply),
     }
 }

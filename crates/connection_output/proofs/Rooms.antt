@@ -7,11 +7,16 @@ use native.Mathlib.Omega.{arith}
 use lib.Dec.{leb}
 use lib.ListN.{length, take}
 use lib.Seq.{take-nil}
+use Rattle.std.specs.Prelude as prelude
+use Rattle.std.specs.Prelude.{Ok, Err}
+use Rattle.std.specs.Result.{result_unwrap_or}
 use Rattle.laws.specs.Pick.{pick}
 use Rattle.laws.specs.Result.{Result, ok, refused}
 use Rattle.laws.specs.Room.{overlaid, at_front}
 use Rattle.laws.proofs.Results.{ok_same, refused_not_ok}
 use Rattle.laws.proofs.Rooms.{fits, both}
+use Rattle.refusal.specs.declared.Refusal.{Refusal}
+use Rattle.wire_connection_header.specs.Answer.{written_as}
 use Rattle.wire.specs.declared.Message.{Message}
 use Rattle.wire.specs.Message.{header, body_length, first_byte, second_byte, number_of}
 use Rattle.wire.specs.Connection.{connection_header, write_connection_header}
@@ -57,10 +62,15 @@ module _ {k : ℕ} {last : List ℕ} (size : ℕ) (bytes room : List ℕ) where
   wrote_none false q = both refl (ap (λ (p : Result ℕ × List ℕ). p.1) q)
 
 module _ (n : ℕ) (payload room : List ℕ) where
-  pub header_wrote : {k : ℕ} {last : List ℕ} → (ok k, last) ≡ write_connection_header n room → (k, last) ≡ at_front (bytes_of_all payload (header_out n ∷ [])) room
+  header_wrote : {k : ℕ} {last : List ℕ} → (ok k, last) ≡ write_connection_header n room → (k, last) ≡ at_front (bytes_of_all payload (header_out n ∷ [])) room
   unfolding write_connection_header at_front bytes_of_all
   header_wrote e = wrote 8 (overlaid (connection_header n) room) room (leb 8 (length room)) e
 
-  pub header_refused : {k : ℕ} {last : List ℕ} → (refused k, last) ≡ write_connection_header n room → (0, last) ≡ at_front (bytes_of_all payload (header_out n ∷ [])) room
+  header_refused : {k : ℕ} {last : List ℕ} → (refused k, last) ≡ write_connection_header n room → (0, last) ≡ at_front (bytes_of_all payload (header_out n ∷ [])) room
   unfolding write_connection_header at_front bytes_of_all
   header_refused e = wrote_none 8 (overlaid (connection_header n) room) room (leb 8 (length room)) e
+
+  pub header_counted : (r : prelude.Result ℕ Refusal) {last : List ℕ} → (written_as r, last) ≡ write_connection_header n room
+      → (result_unwrap_or r 0, last) ≡ at_front (bytes_of_all payload (header_out n ∷ [])) room
+  header_counted (Ok k) e = header_wrote e
+  header_counted (Err k) e = header_refused e

@@ -24,10 +24,8 @@ fn after_bytes(table: &[u32; 256], s: &[u8]) -> u32
     ensures { result ≡ after_bits 0xffff_ffff (message_bits s.now) }
 {
     let mut c: u32 = 0xffff_ffff;
-    let mut i = 0;
-    while i < s.len() {
-        c = after_byte(table, c, s[i]);
-        i += 1;
+    for b in s {
+        c = after_byte(table, c, *b);
     }
     c
 }

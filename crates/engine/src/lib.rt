@@ -8,9 +8,7 @@ pub use call_session::{abort, close, finish, grant, open_session};
 pub use call_slots::QUEUE_SIZE;
 pub use call_turn::turn;
 pub use ration::Ration;
-pub use refusal::{Fault, Refusal, Violation};
+pub use refusal::{Failure, Fault, Refusal, Violation};
 pub use session::SLOT_SIZE;
-pub use state::{
-    Answer, Before, Called, Connection, Outcome, Ping, Session, Setup, Side, Sides, Stage,
-};
+pub use state::{Answer, Before, Called, Connection, Outcome, Session, Setup, Side, Sides, Stage};
 pub use wire::{Message, Role};

@@ -1,25 +1,7 @@
 // The calls of one end: made to the engine, and in words.
-use crate::show;
-use crate::show::item;
 use engine::{Called, Connection};
-use std::io;
-
-// A call with its numbers; the bytes of a put or a receive are passed beside it.
-#[derive(Clone, Copy)]
-pub(crate) enum Call {
-    Start,
-    Open(u8),
-    Put(u8),
-    Finish(u8),
-    Turn,
-    Grant(u8, u32),
-    Abort(u8, bool),
-    Close(u8),
-    Ping(u16),
-    Shutdown,
-    Lost,
-    Receive,
-}
+use script_lines::Call;
+use std::fmt;
 
 // Makes a call to the engine.
 pub(crate) fn ask(
@@ -45,44 +27,38 @@ pub(crate) fn ask(
     }
 }
 
-// The number of a call's word.
-pub(crate) fn word_of(call: Call) -> u8 {
+// The word of a call.
+pub(crate) fn word_of(call: Call) -> &'static str {
     match call {
-        Call::Start => 0,
-        Call::Open(_) => 1,
-        Call::Put(_) => 2,
-        Call::Finish(_) => 3,
-        Call::Turn => 4,
-        Call::Grant(_, _) => 5,
-        Call::Abort(_, _) => 6,
-        Call::Close(_) => 7,
-        Call::Ping(_) => 8,
-        Call::Shutdown => 9,
-        Call::Lost => 10,
-        Call::Receive => 11,
+        Call::Start => "start",
+        Call::Open(_) => "open",
+        Call::Put(_) => "put",
+        Call::Finish(_) => "finish",
+        Call::Turn => "turn",
+        Call::Grant(_, _) => "grant",
+        Call::Abort(_, _) => "abort",
+        Call::Close(_) => "close",
+        Call::Ping(_) => "ping",
+        Call::Shutdown => "shutdown",
+        Call::Lost => "lost",
+        Call::Receive => "receive",
     }
 }
 
-fn number(rt: &impl Print, n: u64) -> io::Result<()> {
-    item(rt, show::SPACE, n)
-}
+/// A call in words, with its numbers.
+#[derive(Clone, Copy)]
+pub(crate) struct CallText(pub(crate) Call);
 
-// Prints the numbers of a call.
-pub(crate) fn items(rt: &impl Print, call: Call) -> io::Result<()> {
-    match call {
-        Call::Open(n) | Call::Put(n) | Call::Finish(n) | Call::Close(n) => number(rt, n as u64),
-        Call::Grant(n, amount) => {
-            number(rt, n as u64)?;
-            number(rt, amount as u64)
+impl fmt::Display for CallText {
+    fn fmt<W: fmt::Write>(&self, f: &mut fmt::Formatter<W>) -> fmt::Result {
+        f.write_str(word_of(self.0))?;
+        match self.0 {
+            Call::Open(n) | Call::Put(n) | Call::Finish(n) | Call::Close(n) => write!(f, " {n}"),
+            Call::Grant(n, amount) => write!(f, " {n} {amount}"),
+            Call::Abort(n, true) => write!(f, " {n} partial"),
+            Call::Abort(n, false) => write!(f, " {n}"),
+            Call::Ping(cookie) => write!(f, " {cookie}"),
+            Call::Start | Call::Turn | Call::Shutdown | Call::Lost | Call::Receive => Ok(()),
         }
-        Call::Abort(n, partial) => {
-            number(rt, n as u64)?;
-            if partial {
-                show::say(rt, show::PARTIAL)?;
-            }
-            Ok(())
-        }
-        Call::Ping(cookie) => number(rt, cookie as u64),
-        Call::Start | Call::Turn | Call::Shutdown | Call::Lost | Call::Receive => Ok(()),
     }
 }

@@ -1,31 +1,41 @@
 // States and numbers by the letters that the tables use; the head of the file stdin lists them.
-use crate::show::find;
 use connection::with_session;
 use engine::{
-    Before, Connection, Outcome, Ping, QUEUE_SIZE, Ration, Role, SLOT_SIZE, Session, Side, Sides,
-    Stage,
+    Before, Connection, Outcome, QUEUE_SIZE, Ration, Role, SLOT_SIZE, Session, Side, Sides, Stage,
 };
-
-// The numbers of the letters 1 to 9 and a to f, then those of the marks - o p l w m, then those of the capital letters that are no
-// size.
-const NUMBERS: [u32; 32] = [
-    1, 2, 3, 4, 5, 6, 7, 8, 9, 10, 11, 12, 13, 14, 15, 127, 127, 127, 128, 128, 255, 1024, 65535,
-    65536, 2147483000, 2147483646, 2147483647, 2147483648, 4294967295, 127, 200, 261,
-];
 
 // The letter at a place, or a space past the end.
 pub(crate) fn letter(s: &[u8], i: usize) -> u8 {
-    if i < s.len() {
-        return s[i];
+    s.get(i).copied().unwrap_or(b' ')
+}
+
+// The number that a letter represents, or 0 if it represents none.
+pub(crate) fn number_of(letter: u8) -> u32 {
+    match letter {
+        b'1'..=b'9' => u32::from(letter - b'0'),
+        b'a'..=b'f' => u32::from(letter - b'a') + 10,
+        b'-' | b'o' | b'p' | b'T' => 127,
+        b'l' | b'w' => 128,
+        b'm' => 255,
+        b'K' => 1024,
+        b'F' => 65535,
+        b'G' => 65536,
+        b'H' => 2147483000,
+        b'Y' => 2147483646,
+        b'M' => 2147483647,
+        b'X' => 2147483648,
+        b'Z' => 4294967295,
+        b'N' => 200,
+        b'D' => 261,
+        _ => size_of(letter),
     }
-    b' '
 }
 
 // The size that a letter represents, of a slot, the room of a turn or the queue, or 0 if it represents none.
-fn size_of(b: u8) -> u32 {
+fn size_of(letter: u8) -> u32 {
     let slot = SLOT_SIZE as u32;
     let queue = QUEUE_SIZE as u32;
-    match b {
+    match letter {
         b'P' => slot - 4,
         b'Q' => slot - 3,
         b'R' => slot,
@@ -39,22 +49,13 @@ fn size_of(b: u8) -> u32 {
     }
 }
 
-// The number that a letter represents, or 0 if it represents none.
-pub(crate) fn number_of(b: u8) -> u32 {
-    let i = find(b"123456789abcdef-oplwmKFGHYMXZTND", 0, b);
-    if i < 32 {
-        return NUMBERS[i];
-    }
-    size_of(b)
-}
-
 // The number of the letter at a place, which is less than 256.
 pub(crate) fn small(s: &[u8], i: usize) -> u8 {
     (number_of(letter(s, i)) % 256) as u8
 }
 
-fn sides_of(b: u8) -> Sides {
-    match b {
+fn sides_of(letter: u8) -> Sides {
+    match letter {
         b'i' => Sides::Opening(Before::Idle),
         b'j' => Sides::Opening(Before::Finished),
         b'k' => Sides::Opening(Before::Ended),
@@ -71,34 +72,20 @@ fn sides_of(b: u8) -> Sides {
     }
 }
 
-fn ration_of(b: u8) -> Ration {
-    if b == b'e' {
-        return Ration::Endless;
+fn ration_of(letter: u8) -> Ration {
+    match letter {
+        b'e' => Ration::Endless,
+        _ => Ration::Finite(number_of(letter)),
     }
-    Ration::Finite(number_of(b))
 }
 
-fn stage_of(role: Role, b: u8) -> Stage {
-    match b {
+fn stage_of(role: Role, letter: u8) -> Stage {
+    match letter {
         b'f' => Stage::Fresh(role),
         b't' => Stage::Started,
         b'v' => Stage::Up(role, 1),
         _ => Stage::Up(role, 4),
     }
-}
-
-fn own_of(stage: u8) -> u16 {
-    if stage == b'v' {
-        return 1;
-    }
-    4
-}
-
-fn ping_of(b: u8) -> Ping {
-    if b == b'p' {
-        return Ping::Outstanding(7);
-    }
-    Ping::None
 }
 
 fn session_of(code: &[u8]) -> Session {
@@ -114,14 +101,15 @@ fn session_of(code: &[u8]) -> Session {
 
 // An end whose header number is also the far end's.
 pub(crate) fn state_of(role: Role, code: &[u8]) -> Connection {
+    let stage = letter(code, 1);
     let mark = letter(code, 2);
     let c = Connection {
         sessions: [Session::BLANK; 128],
-        stage: stage_of(role, letter(code, 1)),
-        over: (mark == b'o') | (mark == b'w'),
-        own: own_of(letter(code, 1)),
+        stage: stage_of(role, stage),
+        over: matches!(mark, b'o' | b'w'),
+        own: if stage == b'v' { 1 } else { 4 },
         last: small(code, 2),
-        ping: ping_of(mark),
+        ping: (mark == b'p').then_some(7),
     };
     with_session(c, small(code, 8), session_of(code))
 }

@@ -1,14 +1,14 @@
 // A line: one call, what it answers and writes, and what it changes.
-use crate::call::Call;
-use crate::compare::{change, fate_words, role_words};
-use crate::show::{item, say};
-use crate::{call, show};
+use crate::call::{CallText, ask};
+use crate::compare::{Change, compared};
+use crate::show::{BytesText, part, rest};
 use connection::{role_of, session_at};
-use engine::{Answer, Called, Connection, QUEUE_SIZE, SLOT_SIZE};
+use engine::{Answer, Called, Connection, Outcome, QUEUE_SIZE, Role, SLOT_SIZE};
 use engine_marks::is_filled;
+use script_lines::Call;
 use std::io;
-use text_line::{Line, first};
-use text_state::answered;
+use text_line::first;
+use text_state::AnswerText;
 
 // The room of each call: 12 bytes more than a turn needs.
 const ROOM_SIZE: usize = 16 + (SLOT_SIZE as usize);
@@ -16,33 +16,44 @@ const ROOM_SIZE: usize = 16 + (SLOT_SIZE as usize);
 // One end with its queue, from call to call.
 #[derive(Drop)]
 pub(crate) struct Bench {
-    pub(crate) connection: Connection,
-    pub(crate) queue: [u8; QUEUE_SIZE],
+    connection: Connection,
+    queue: [u8; QUEUE_SIZE],
 }
 
-pub(crate) fn on_bench(connection: Connection) -> Bench {
-    Bench {
-        connection,
-        queue: [0xDDu8; QUEUE_SIZE],
+// The word of an end.
+pub(crate) fn end_word(c: &Connection) -> &'static str {
+    match role_of(c.stage) {
+        Role::Client => "client",
+        Role::Server => "server",
     }
 }
 
-fn answer(rt: &impl Print, a: Answer, used: usize) -> io::Result<()> {
-    say(rt, show::COLON)?;
-    let line = answered(Line::new(), a, used);
-    let bytes = line.bytes;
-    show::text(rt, first(&bytes, line.length))
+fn fate_words(fate: Outcome) -> &'static str {
+    match fate {
+        Outcome::None => "none",
+        Outcome::Running => "running",
+        Outcome::Complete => "complete",
+        Outcome::MayRetry => "may be retried",
+        Outcome::MustNotRetry => "must not be retried",
+    }
 }
 
-// Prints the bytes used, where the words of the answer do not include them.
-fn used_beside(rt: &impl Print, a: Answer, used: usize) -> io::Result<()> {
-    match a {
-        Answer::Header(_) | Answer::Message { .. } => {}
-        Answer::Done | Answer::Served(_) | Answer::Refused(_) | Answer::Violated(_) => {
-            if 0 < used {
-                item(rt, show::USED, used as u64)?;
-            }
-        }
+fn change_word(change: Change) -> &'static str {
+    match change {
+        Change::Same => "same",
+        Change::Over => "over",
+        Change::Changed => "changed",
+    }
+}
+
+// Prints the answer, and the bytes used, where its words do not include them.
+fn answer(rt: &impl Print, called: &Called) -> io::Result<()> {
+    let answer = called.answer;
+    let used = called.used;
+    print!(rt; ":{}", AnswerText { answer, used })?;
+    let told = matches!(answer, Ok(Answer::Header(_) | Answer::Message { .. }));
+    if !told && 0 < used {
+        print!(rt; " used {used}")?;
     }
     Ok(())
 }
@@ -50,8 +61,7 @@ fn used_beside(rt: &impl Print, a: Answer, used: usize) -> io::Result<()> {
 // Prints the payload among the bytes received.
 fn payload(rt: &impl Print, bytes: &[u8], start: usize, end: usize) -> io::Result<()> {
     if start < end {
-        say(rt, show::PAYLOAD)?;
-        show::part(rt, bytes, start, end)?;
+        print!(rt; " payload {}", BytesText(part(bytes, start, end)))?;
     }
     Ok(())
 }
@@ -59,90 +69,68 @@ fn payload(rt: &impl Print, bytes: &[u8], start: usize, end: usize) -> io::Resul
 // Prints the bytes written and the one behind them, and a complaint if any byte behind them is not as lent.
 fn written(rt: &impl Print, wrote: usize, room: &[u8]) -> io::Result<()> {
     if 0 < wrote {
-        say(rt, show::WROTE)?;
-        show::part(rt, room, 0, wrote)?;
-        say(rt, show::THEN)?;
-        show::bytes(rt, first(show::rest(room, wrote), 1))?;
+        let text = BytesText(first(room, wrote));
+        let next = BytesText(first(rest(room, wrote), 1));
+        print!(rt; " wrote {text} then {next}")?;
     }
     if !is_filled(room, wrote, 0xEE) {
-        say(rt, show::SPOILED)?;
+        print!(rt; " spoiled")?;
     }
     Ok(())
-}
-
-// Prints what a call gives beside the state.
-fn outcome(rt: &impl Print, called: Called, bytes: &[u8], room: &[u8]) -> io::Result<()> {
-    let a = called.answer;
-    answer(rt, a, called.used)?;
-    used_beside(rt, a, called.used)?;
-    payload(rt, bytes, called.start, called.end)?;
-    written(rt, called.wrote, room)
-}
-
-fn changed(rt: &impl Print, before: &Bench, after: &Bench) -> io::Result<()> {
-    let c = before.connection;
-    let d = after.connection;
-    say(rt, change(c, d))?;
-    if check::same(&before.queue, &after.queue) {
-        say(rt, show::LINE_END)
-    } else {
-        say(rt, show::QUEUE_CHANGED)
-    }
-}
-
-pub(crate) fn role(rt: &impl Print, c: Connection) -> io::Result<()> {
-    let stage = c.stage;
-    say(rt, role_words(role_of(stage)))
 }
 
 // Prints the end, and the call with its numbers and bytes.
-fn question(rt: &impl Print, c: Connection, asked: Call, bytes: &[u8]) -> io::Result<()> {
-    role(rt, c)?;
-    say(rt, call::word_of(asked))?;
-    call::items(rt, asked)?;
-    if 0 < bytes.len() {
-        say(rt, show::SPACE)?;
-        show::bytes(rt, bytes)?;
+fn question(rt: &impl Print, c: &Connection, asked: Call, bytes: &[u8]) -> io::Result<()> {
+    print!(rt; "{} {}", end_word(c), CallText(asked))?;
+    if !bytes.is_empty() {
+        print!(rt; " {}", BytesText(bytes))?;
     }
     Ok(())
 }
 
-// Makes one call, with the bytes of a put or a receive.
-pub(crate) fn line(rt: &impl Print, b: Bench, asked: Call, bytes: &[u8]) -> io::Result<Bench> {
-    let c = b.connection;
-    let mut queue = b.queue;
-    let mut room = [0xEEu8; ROOM_SIZE];
-    question(rt, c, asked, bytes)?;
-    let called = call::ask(c, asked, bytes, &mut queue, &mut room);
-    outcome(rt, called, bytes, &room)?;
-    let connection = called.connection;
-    let after = Bench { connection, queue };
-    changed(rt, &b, &after)?;
-    Ok(after)
-}
+impl Bench {
+    // An end with a queue that no call has written.
+    pub(crate) fn new(connection: Connection) -> Bench {
+        Bench {
+            connection,
+            queue: [0xDDu8; QUEUE_SIZE],
+        }
+    }
 
-// Prints the sizes of a slot and of the queue.
-pub(crate) fn sizes(rt: &impl Print) -> io::Result<()> {
-    item(rt, show::SLOT, SLOT_SIZE as u64)?;
-    item(rt, show::QUEUE, QUEUE_SIZE as u64)?;
-    say(rt, show::LINE_END)
-}
+    // Makes one call, with the bytes of a put or a receive, and prints its line.
+    pub(crate) fn call(&mut self, rt: &impl Print, asked: Call, bytes: &[u8]) -> io::Result<()> {
+        let before = self.connection;
+        let mut queue = self.queue;
+        let mut room = [0xEEu8; ROOM_SIZE];
+        question(rt, &before, asked, bytes)?;
+        let called = ask(before, asked, bytes, &mut queue, &mut room);
+        answer(rt, &called)?;
+        payload(rt, bytes, called.start, called.end)?;
+        written(rt, called.wrote, &room)?;
+        let what = change_word(compared(&before, &called.connection));
+        let same_queue = check::same(&self.queue, &queue);
+        println!(rt;
+            ", {what}{}",
+            if same_queue { "" } else { ", queue changed" }
+        )?;
+        self.connection = called.connection;
+        self.queue = queue;
+        Ok(())
+    }
 
-// Prints the first bytes of slot 5 with the one before them, and its last byte with the one behind it.
-pub(crate) fn slot_5(rt: &impl Print, b: &Bench) -> io::Result<()> {
-    let start = 5 * (SLOT_SIZE as usize);
-    let end = start + (SLOT_SIZE as usize);
-    say(rt, show::SLOT_5)?;
-    show::part(rt, &b.queue, start - 1, start + 4)?;
-    say(rt, show::DOTS)?;
-    show::part(rt, &b.queue, end - 1, end + 1)?;
-    say(rt, show::LINE_END)
-}
+    // Prints the first bytes of slot 5 with the one before them, and its last byte with the one behind it.
+    pub(crate) fn slot_5(&self, rt: &impl Print) -> io::Result<()> {
+        let size = SLOT_SIZE as usize;
+        let start = 5 * size;
+        let end = start + size;
+        let front = BytesText(part(&self.queue, start - 1, start + 4));
+        let back = BytesText(part(&self.queue, end - 1, end + 1));
+        println!(rt; "slot 5: {front} .. {back}")
+    }
 
-pub(crate) fn fate(rt: &impl Print, b: &Bench, n: u8) -> io::Result<()> {
-    let c = b.connection;
-    let x = session_at(c, n);
-    let outcome = x.outcome;
-    item(rt, show::FATE_OF, n as u64)?;
-    say(rt, fate_words(outcome))
+    // Prints the fate of a session.
+    pub(crate) fn fate(&self, rt: &impl Print, n: u8) -> io::Result<()> {
+        let session = session_at(self.connection, n);
+        println!(rt; "fate of {n}: {}", fate_words(session.outcome))
+    }
 }

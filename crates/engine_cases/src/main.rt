@@ -15,11 +15,12 @@ mod rows;
 mod show;
 mod tables;
 
+use engine::{QUEUE_SIZE, SLOT_SIZE};
 use std::io;
 
 fn main(rt: HostRuntime) -> io::Result<()> {
     let mut input = [0u8; 16384];
     let n = input_bytes::read_full(&mut rt.stdin(), &mut input)?;
-    lines::sizes(&rt)?;
+    println!(rt; "slot {SLOT_SIZE}, queue {QUEUE_SIZE}")?;
     tables::put_all(&rt, text_line::first(&input, n))
 }

@@ -13,9 +13,8 @@ use std::env::FillError;
 use std::io;
 use std::rt::Env;
 
-fn put(rt: &impl Print, name: &[u8], count: u64) -> io::Result<()> {
-    rt.write_all(name)?;
-    rt.println(count)
+fn put(rt: &impl Print, name: &str, count: u64) -> io::Result<()> {
+    println!(rt; "{name} {count}")
 }
 
 fn all(
@@ -23,11 +22,11 @@ fn all(
     queue: &mut [u8; QUEUE_SIZE],
     room: &mut [u8; ROOM_SIZE],
 ) -> io::Result<()> {
-    put(rt, b"table ", rounds::tables())?;
-    put(rt, b"wellformed ", rounds::checks())?;
-    put(rt, b"turn ", rounds::turns(queue, room))?;
-    put(rt, b"put ", rounds::puts(queue))?;
-    put(rt, b"receive ", rounds::receipts(room))
+    put(rt, "table", rounds::tables())?;
+    put(rt, "wellformed", rounds::checks())?;
+    put(rt, "turn", rounds::turns(queue, room))?;
+    put(rt, "put", rounds::puts(queue))?;
+    put(rt, "receive", rounds::receipts(room))
 }
 
 fn usage(rt: &impl Eprint) -> io::Result<()> {
@@ -41,40 +40,27 @@ fn run(
     queue: &mut [u8; QUEUE_SIZE],
     room: &mut [u8; ROOM_SIZE],
 ) -> io::Result<()> {
-    if check::same(word, b"table") {
-        put(rt, b"table ", rounds::tables())
-    } else if check::same(word, b"wellformed") {
-        put(rt, b"wellformed ", rounds::checks())
-    } else if check::same(word, b"turn") {
-        put(rt, b"turn ", rounds::turns(queue, room))
-    } else if check::same(word, b"put") {
-        put(rt, b"put ", rounds::puts(queue))
-    } else if check::same(word, b"receive") {
-        put(rt, b"receive ", rounds::receipts(room))
-    } else {
-        usage(rt)
+    match word {
+        b"table" => put(rt, "table", rounds::tables()),
+        b"wellformed" => put(rt, "wellformed", rounds::checks()),
+        b"turn" => put(rt, "turn", rounds::turns(queue, room)),
+        b"put" => put(rt, "put", rounds::puts(queue)),
+        b"receive" => put(rt, "receive", rounds::receipts(room)),
+        _ => usage(rt),
     }
 }
 
 // The sum of the bytes.
 fn sum(bytes: &[u8]) -> u64 {
-    let mut total: u64 = 0;
-    let mut i: usize = 0;
-    while i < bytes.len() {
-        total = std::num::wrapping_add_u64(total, wide(bytes[i]));
-        i += 1;
-    }
-    total
-}
-
-fn wide(byte: u8) -> u64 {
-    byte as u64
+    bytes
+        .iter()
+        .fold(0, |total: u64, byte| total.wrapping_add(u64::from(*byte)))
 }
 
 // Prints what is left in queue and room.
 fn left(rt: &impl Print, queue: &[u8; QUEUE_SIZE], room: &[u8; ROOM_SIZE]) -> io::Result<()> {
-    put(rt, b"queue ", sum(queue))?;
-    put(rt, b"room ", sum(room))
+    put(rt, "queue", sum(queue))?;
+    put(rt, "room", sum(room))
 }
 
 fn main(rt: HostRuntime) -> io::Result<()> {

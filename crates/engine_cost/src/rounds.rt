@@ -2,8 +2,8 @@
 use connection::with_session;
 use connection_check::well_formed;
 use engine::{
-    Answer, Called, Connection, Outcome, QUEUE_SIZE, Ration, Role, SLOT_SIZE, Session, Setup, Side,
-    Sides, Stage,
+    Called, Connection, Outcome, QUEUE_SIZE, Ration, Role, SLOT_SIZE, Session, Setup, Side, Sides,
+    Stage,
 };
 
 const ROUNDS: u64 = 100000;
@@ -35,139 +35,75 @@ fn begun(waiting: u16) -> Round {
         role: Role::Client,
         header: 0,
     };
-    let x = session(waiting);
-    let fresh = Connection::new(setup);
-    let mut c = fresh.with_stage(Stage::Up(Role::Client, 0));
-    c = with_session(c, 0, x);
-    c = with_session(c, 1, x);
-    c = with_session(c, 2, x);
-    c = with_session(c, 3, x);
-    c = with_session(c, 4, x);
-    c = with_session(c, 5, x);
-    c = with_session(c, 6, x);
-    c = with_session(c, 7, x);
+    let mut connection = Connection::new(setup).with_stage(Stage::Up(Role::Client, 0));
+    for n in 0..8 {
+        connection = with_session(connection, n, session(waiting));
+    }
     Round {
-        connection: c,
+        connection,
         taken: 0,
     }
 }
 
-fn is_taken(answer: Answer) -> bool {
-    match answer {
-        Answer::Done => true,
-        Answer::Served(_) => true,
-        Answer::Header(_) => true,
-        Answer::Message { .. } => true,
-        Answer::Refused(_) => false,
-        Answer::Violated(_) => false,
-    }
-}
-
-fn more(count: u64, taken: bool) -> u64 {
-    if taken {
-        return std::num::wrapping_add_u64(count, 1);
-    }
-    count
-}
-
-// The session number of a round.
-fn number(i: u64) -> u8 {
-    (i % 8) as u8
-}
-
 // The round after a call, with the session set back to what it was before the call.
 fn after(called: Called, taken: u64, n: u8, waiting: u16) -> Round {
-    let answer = called.answer;
-    let c = called.connection;
     Round {
-        connection: with_session(c, n, session(waiting)),
-        taken: more(taken, is_taken(answer)),
+        connection: with_session(called.connection, n, session(waiting)),
+        taken: taken.wrapping_add(u64::from(called.answer.is_ok())),
     }
 }
 
-fn set_round(r: Round, n: u8, waiting: u16) -> Round {
-    let c = r.connection;
-    Round {
-        connection: with_session(c, n, session(waiting)),
-        taken: more(r.taken, true),
+// Goes round the eight sessions, and tells how many calls were taken.
+fn go_round<F: FnMut(Round, u8) -> Round>(waiting: u16, mut round: F) -> u64
+    requires { F.IsAlwaysCallable round }
+{
+    let mut r = begun(waiting);
+    for i in 0..ROUNDS {
+        r = round(r, (i % 8) as u8);
     }
-}
-
-fn check_round(r: Round, n: u8, waiting: u16) -> Round {
-    let before = r.connection;
-    let c = with_session(before, n, session(waiting));
-    Round {
-        connection: c,
-        taken: more(r.taken, well_formed(c)),
-    }
-}
-
-fn turn_round(r: Round, n: u8, queue: &mut [u8; QUEUE_SIZE], room: &mut [u8; ROOM_SIZE]) -> Round {
-    let c = r.connection;
-    after(engine::turn(c, queue, room), r.taken, n, 16)
-}
-
-fn put_round(r: Round, n: u8, queue: &mut [u8; QUEUE_SIZE]) -> Round {
-    let c = r.connection;
-    after(engine::put(c, n, b"0123456789abcdef", queue), r.taken, n, 0)
-}
-
-fn receive_round(r: Round, n: u8, room: &mut [u8; ROOM_SIZE]) -> Round {
-    let c = r.connection;
-    let called = engine::receive(c, b"\x80\x05\x00\x100123456789abcdef", room);
-    after(called, r.taken, n, 0)
+    r.taken
 }
 
 // Sets a session in each round, as the other loops do in addition to their call.
 pub(crate) fn tables() -> u64 {
-    let mut r = begun(0);
-    let mut i: u64 = 0;
-    while i < ROUNDS {
-        r = set_round(r, number(i), 16);
-        i += 1;
-    }
-    r.taken
+    go_round(
+        0,
+        |r, n| Round {
+            connection: with_session(r.connection, n, session(16)),
+            taken: r.taken.wrapping_add(1),
+        },
+    )
 }
 
 pub(crate) fn checks() -> u64 {
-    let mut r = begun(0);
-    let mut i: u64 = 0;
-    while i < ROUNDS {
-        r = check_round(r, number(i), 16);
-        i += 1;
-    }
-    r.taken
+    go_round(0, |r, n| {
+        let connection = with_session(r.connection, n, session(16));
+        Round {
+            connection,
+            taken: r.taken.wrapping_add(u64::from(well_formed(connection))),
+        }
+    })
 }
 
 // Each turn sends the 16 bytes of the session whose turn it is, and they wait again for the next time.
 pub(crate) fn turns(queue: &mut [u8; QUEUE_SIZE], room: &mut [u8; ROOM_SIZE]) -> u64 {
-    let mut r = begun(16);
-    let mut i: u64 = 0;
-    while i < ROUNDS {
-        r = turn_round(r, number(i), queue, room);
-        i += 1;
-    }
-    r.taken
+    go_round(16, |r, n| {
+        after(engine::turn(r.connection, queue, room), r.taken, n, 16)
+    })
 }
 
 // Each put of 16 bytes finds the slot empty.
 pub(crate) fn puts(queue: &mut [u8; QUEUE_SIZE]) -> u64 {
-    let mut r = begun(0);
-    let mut i: u64 = 0;
-    while i < ROUNDS {
-        r = put_round(r, number(i), queue);
-        i += 1;
-    }
-    r.taken
+    go_round(0, |r, n| {
+        let called = engine::put(r.connection, n, b"0123456789abcdef", queue);
+        after(called, r.taken, n, 0)
+    })
 }
 
 // Each receipt is a Data message of 16 bytes.
 pub(crate) fn receipts(room: &mut [u8; ROOM_SIZE]) -> u64 {
-    let mut r = begun(0);
-    let mut i: u64 = 0;
-    while i < ROUNDS {
-        r = receive_round(r, number(i), room);
-        i += 1;
-    }
-    r.taken
+    go_round(0, |r, n| {
+        let called = engine::receive(r.connection, b"\x80\x05\x00\x100123456789abcdef", room);
+        after(called, r.taken, n, 0)
+    })
 }

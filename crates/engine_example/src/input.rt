@@ -1,34 +1,35 @@
-// The input that no call has used yet: the first bytes of a buffer.
+// The input that no call has used yet.
+use std::alloc::Global;
 use std::io;
 use std::io::Read;
 
-// As long as the longest message.
-pub(crate) const INPUT_SIZE: usize = 65539;
-
-// Moves the bytes behind those used to the front, and returns how many bytes are held then.
-pub(crate) fn drop_first(input: &mut [u8; INPUT_SIZE], held: usize, used: usize) -> usize {
-    if INPUT_SIZE < held {
-        return 0;
-    }
-    let mut to: usize = 0;
-    let mut from = used;
-    while from < held {
-        input[to] = input[from];
-        to += 1;
-        from += 1;
-    }
-    to
+#[derive(Drop)]
+pub(crate) struct Input {
+    bytes: Vec<u8>,
 }
 
-// Makes one read behind the bytes held, and returns how many are held then.
-pub(crate) fn read_behind(
-    stdin: &mut impl Read,
-    input: &mut [u8],
-    held: usize,
-) -> io::Result<usize> {
-    if input.len() <= held {
-        return Ok(held);
+impl Input {
+    pub(crate) fn new(alloc: Global) -> Input {
+        Input {
+            bytes: Vec::new(alloc),
+        }
     }
-    let got = stdin.read(&mut input[held..])?;
-    Ok(held + got)
+
+    pub(crate) fn as_slice(&self) -> &[u8] {
+        self.bytes.as_slice()
+    }
+
+    // Drops the bytes that a call has used, which are the first.
+    pub(crate) fn drop_first(&mut self, used: usize) {
+        let used = used.min(self.bytes.len());
+        self.bytes.drain(..used);
+    }
+
+    // Makes one read, and returns whether the input has not ended.
+    pub(crate) fn read(&mut self, stdin: &mut impl Read) -> io::Result<bool> {
+        let mut chunk = [0u8; 4096];
+        let n = stdin.read(&mut chunk)?;
+        self.bytes.extend_from_slice(&chunk[..n])?;
+        Ok(n != 0)
+    }
 }

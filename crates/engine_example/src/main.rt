@@ -4,122 +4,55 @@
 // request with "ok" and closes the session. Both tell on standard error what they receive. docs/API.md explains the loop.
 #![tactic(auto)]
 
-mod calls;
+mod end;
 mod input;
 mod tell;
 
-use calls::{ROOM_SIZE, send};
-use engine::{Answer, Connection, Outcome, QUEUE_SIZE, Refusal, Role, Setup};
-use input::INPUT_SIZE;
+use end::End;
+use engine::{Answer, Refusal, Role};
+use input::Input;
+use refusal::Failure;
 use std::io;
 use std::rt::Env;
-use text_line::first;
 
-// What is kept between calls beside the buffers: the connection, and how many bytes of input no call has used yet.
-#[derive(Drop)]
-struct End {
-    connection: Connection,
-    held: usize,
-}
-
-// The line is lost.
-fn lose(end: End) -> End {
-    let c = end.connection;
-    let called = engine::lost_line(c);
-    let connection = called.connection;
-    End {
-        connection,
-        held: end.held,
+// A refusal of receive: with 10 a header or message is not complete yet, and more of the input is read. Where that has ended, or at any
+// other refusal, which this program does not meet, the line is lost.
+fn refused(rt: &HostRuntime, end: &mut End, refusal: Refusal, input: &mut Input) -> io::Result<()> {
+    if refusal != Refusal::Incomplete || !input.read(&mut rt.stdin())? {
+        end.lose();
     }
-}
-
-// Reads more of the input; where it has ended, the line is lost.
-fn wait(rt: &HostRuntime, end: End, input: &mut [u8; INPUT_SIZE]) -> io::Result<End> {
-    let held = input::read_behind(&mut rt.stdin(), input, end.held)?;
-    if held == end.held {
-        return Ok(lose(end));
-    }
-    let connection = end.connection;
-    Ok(End { connection, held })
-}
-
-// A refusal of receive: with 10 a header or message is not complete yet. This program meets no other, and would give up.
-fn refused(
-    rt: &HostRuntime,
-    end: End,
-    refusal: Refusal,
-    input: &mut [u8; INPUT_SIZE],
-) -> io::Result<End> {
-    match refusal {
-        Refusal::Incomplete => wait(rt, end, input),
-        _ => Ok(lose(end)),
-    }
+    Ok(())
 }
 
 // Takes one header or message, sends the reply, and does what the program wants to do then.
-fn step(
-    rt: &HostRuntime,
-    end: End,
-    role: Role,
-    input: &mut [u8; INPUT_SIZE],
-    queue: &mut [u8; QUEUE_SIZE],
-    room: &mut [u8; ROOM_SIZE],
-) -> io::Result<End> {
-    let c = end.connection;
-    let called = engine::receive(c, first(input, end.held), room);
-    let answer = called.answer;
-    if let Answer::Refused(refusal) = answer {
+fn step(rt: &HostRuntime, end: &mut End, input: &mut Input) -> io::Result<()> {
+    let called = end.receive(input.as_slice());
+    if let Err(Failure::Refused(refusal)) = called.answer {
         return refused(rt, end, refusal, input);
     }
-    send(rt, called, room)?;
-    tell::received(rt, called, input)?;
-    let c = called.connection;
-    let connection = match answer {
-        Answer::Header(_) => calls::at_header(rt, c, role, queue, room)?,
-        Answer::Message { message, .. } => calls::at_message(rt, c, role, message, queue, room)?,
-        _ => c,
-    };
-    let held = input::drop_first(input, end.held, called.used);
-    Ok(End { connection, held })
-}
-
-// A new connection. A client sends its header at once; at a server start is refused, and changes nothing.
-fn begin(rt: &HostRuntime, role: Role, room: &mut [u8; ROOM_SIZE]) -> io::Result<End> {
-    let c = Connection::new(Setup { role, header: 4 });
-    let called = engine::start(c, room);
-    send(rt, called, room)?;
-    let connection = called.connection;
-    Ok(End {
-        connection,
-        held: 0,
-    })
-}
-
-// A connection goes on until it is over, and at a client until the outcome of the request is known.
-fn goes_on(c: Connection) -> bool {
-    let table = c.sessions;
-    let x = table[5];
-    let outcome = x.outcome;
-    match outcome {
-        Outcome::None => !c.over,
-        Outcome::Running => !c.over,
-        _ => false,
+    end.take(rt, &called)?;
+    tell::received(rt, &called, input.as_slice())?;
+    match called.answer {
+        Ok(Answer::Header(_)) => end.at_header(rt)?,
+        Ok(Answer::Message { message, .. }) => end.at_message(rt, message)?,
+        _ => {}
     }
+    input.drop_first(called.used);
+    Ok(())
 }
 
 fn run(rt: &HostRuntime, role: Role) -> io::Result<()> {
-    let mut input = [0u8; INPUT_SIZE];
-    let mut queue = [0u8; QUEUE_SIZE];
-    let mut room = [0u8; ROOM_SIZE];
-    let mut end = begin(rt, role, &mut room)?;
+    let mut input = Input::new(rt.alloc());
+    let mut end = End::new(role);
+    end.start(rt)?;
+    // Kept: an input may have no end, so the loop counts its turns up to a number that no run uses up.
     for _ in 0..u64::MAX {
-        if !goes_on(end.connection) {
+        if !end.goes_on() {
             break;
         }
-        end = step(rt, end, role, &mut input, &mut queue, &mut room)?;
+        step(rt, &mut end, &mut input)?;
     }
-    let table = end.connection.sessions;
-    tell::session(rt, 5, table[5])
+    tell::session(rt, 5, end.request())
 }
 
 fn main(rt: HostRuntime) -> io::Result<()> {
@@ -127,11 +60,9 @@ fn main(rt: HostRuntime) -> io::Result<()> {
     let Ok(n) = rt.arg(1, &mut word) else {
         return tell::usage(&rt);
     };
-    if check::same(&word[..n], b"client") {
-        run(&rt, Role::Client)
-    } else if check::same(&word[..n], b"server") {
-        run(&rt, Role::Server)
-    } else {
-        tell::usage(&rt)
+    match &word[..n] {
+        b"client" => run(&rt, Role::Client),
+        b"server" => run(&rt, Role::Server),
+        _ => tell::usage(&rt),
     }
 }

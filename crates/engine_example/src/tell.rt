@@ -1,51 +1,31 @@
 // What is told on standard error.
-use crate::input::INPUT_SIZE;
 use engine::{Called, Session};
 use std::io;
-use text_line::{Line, first};
-
-fn words(rt: &HostRuntime, s: &[u8]) -> io::Result<()> {
-    rt.stderr().write_all(s)
-}
-
-fn put(rt: &HostRuntime, line: Line) -> io::Result<()> {
-    let bytes = line.bytes;
-    words(rt, first(&bytes, line.length))?;
-    words(rt, b"\n")
-}
+use text_state::{AnswerText, SessionText};
 
 // The payload of a message, which is a part of the input.
-fn payload(rt: &HostRuntime, called: Called, input: &[u8; INPUT_SIZE]) -> io::Result<()> {
-    let bytes = &input[..];
-    let start = called.start;
-    let end = called.end;
-    if start < end && end <= bytes.len() {
-        words(rt, &bytes[start..end])?;
-        words(rt, b"\n")?;
+fn payload(rt: &HostRuntime, called: &Called, input: &[u8]) -> io::Result<()> {
+    let payload = input.get(called.start..called.end).unwrap_or(b"");
+    if !payload.is_empty() {
+        rt.stderr().write_all(payload)?;
+        rt.eprintln("")?;
     }
     Ok(())
 }
 
 // The answer of a receive, in the words of a script's output, and the payload.
-pub(crate) fn received(
-    rt: &HostRuntime,
-    called: Called,
-    input: &[u8; INPUT_SIZE],
-) -> io::Result<()> {
+pub(crate) fn received(rt: &HostRuntime, called: &Called, input: &[u8]) -> io::Result<()> {
     let answer = called.answer;
-    let line = Line::new().text(b"receive");
-    put(rt, text_state::answered(line, answer, called.used))?;
+    let used = called.used;
+    eprintln!(rt; "receive{}", AnswerText { answer, used })?;
     payload(rt, called, input)
 }
 
 // What became of a session.
-pub(crate) fn session(rt: &HostRuntime, n: u8, x: Session) -> io::Result<()> {
-    put(rt, text_state::session_line(n, x))
+pub(crate) fn session(rt: &HostRuntime, number: u8, session: Session) -> io::Result<()> {
+    rt.eprintln(SessionText { number, session })
 }
 
 pub(crate) fn usage(rt: &HostRuntime) -> io::Result<()> {
-    words(
-        rt,
-        b"usage: engine_example client|server, with the line on standard input and output\n",
-    )
+    rt.eprintln("usage: engine_example client|server, with the line on standard input and output")
 }

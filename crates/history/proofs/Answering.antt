@@ -1,5 +1,6 @@
 -- answers-exactly: each call answers by its checks in order, told from the log; turn and receive do so before they search or read.
 -- From the exactness of each rule about one session.
+use Rattle.std.specs.Prelude.{Option, Some, None}
 use mathlib.Core.Path.{◌≡◌, refl, sym, ap, ◌∙◌}
 use mathlib.Core.Bool.{Bool, true, false, not, false≢true}
 use mathlib.Core.List.{List, [], ◌∷◌}
@@ -13,8 +14,6 @@ use Rattle.laws.proofs.Tests.{not_false}
 use Rattle.wire.specs.Message.{is_client, is_server}
 use Rattle.state.specs.declared.Stage.{Stage}
 use Rattle.state.specs.declared.Stage.TheVariants as stage
-use Rattle.state.specs.declared.Ping.{Ping}
-use Rattle.state.specs.declared.Ping.TheVariants as waiting
 use Rattle.state.specs.declared.Setup.{Setup}
 use Rattle.protocol.specs.Slot.{queue_size, turn_room}
 use Rattle.protocol.specs.Queue.{slot}
@@ -97,9 +96,9 @@ fresh_is (stage.Fresh r) = refl
 fresh_is stage.Started = refl
 fresh_is (stage.Up r far) = refl
 
-outstanding_is : (p : Ping) → is_outstanding p ≡ is_pinging (pinging_of p)
-outstanding_is waiting.None = refl
-outstanding_is (waiting.Outstanding k) = refl
+outstanding_is : (p : Option ℕ) → is_outstanding p ≡ is_pinging (pinging_of p)
+outstanding_is None = refl
+outstanding_is (Some k) = refl
 
 -- ---- what turn and receive refuse before they search or read
 

@@ -1,4 +1,5 @@
 -- What the other end reads in order is all that is in the bytes: no bytes are both a message and a connection header.
+use Rattle.std.specs.Prelude.{Option, None}
 use mathlib.Core.Path.{◌≡◌, refl, sym, ap, ◌∙◌, subst}
 use mathlib.Core.Bool.{Bool, true, false}
 use mathlib.Core.List.{List, [], ◌∷◌, ◌++◌}
@@ -13,8 +14,7 @@ use Rattle.laws.specs.Runs.{gather}
 use Rattle.laws.proofs.Results.{refused_not_ok, violation_not_ok}
 use Rattle.laws.proofs.Tests.{and_first, and_second}
 use Rattle.wire.specs.declared.Role.{Role}
-use Rattle.wire.specs.declared.Named.{Named}
-use Rattle.wire.specs.declared.Named.TheVariants.{Unknown}
+use Rattle.wire.specs.declared.Kind.{Kind}
 use Rattle.wire.specs.declared.Message.{Message}
 use Rattle.wire.specs.declared.Message.TheVariants as msg
 use Rattle.wire.specs.Pattern.{O, I, bits, fits}
@@ -32,7 +32,7 @@ use Rattle.history.specs.Claims.{data_number}
 -- ---- no bytes are both
 
 -- the first byte of "Jmux" names no type
-magic_no_type : (b : ℕ) → fits (bits O I O O I O I O) 128 b ≡ true → kind_of b ≡ Unknown
+magic_no_type : (b : ℕ) → fits (bits O I O O I O I O) 128 b ≡ true → kind_of b ≡ None
 unfolding kind_of pick
 magic_no_type b e = rw (bit_128, bit_64, bit_32, bit_16, bit_8)
   where
@@ -60,15 +60,15 @@ magic_no_type b e = rw (bit_128, bit_64, bit_32, bit_16, bit_8)
     bit_8 : b / 8 % 2 ≡ 1
     bit_8 = eqb-true _ _ (and_first (eqb (b / 8 % 2) 1) _ (and_second (eqb (b / 16 % 2) 0) _ from_16))
 
-magic_first : (b : ℕ) (s : List ℕ) (n : ℕ) → read_connection_header (b ∷ s) ≡ ok n → kind_of b ≡ Unknown
+magic_first : (b : ℕ) (s : List ℕ) (n : ℕ) → read_connection_header (b ∷ s) ≡ ok n → kind_of b ≡ None
 unfolding read_connection_header parse_connection_header pick
 magic_first b s n q = long (ltb (length (b ∷ s)) 8) q
   where
-    right : (t : Bool) (far : ℕ) → fixed connection_layout (take 8 (b ∷ s)) ≡ t → pick t (ok far) (violation (fault 22 (first_wrong connection_layout (take 8 (b ∷ s))))) ≡ ok n → kind_of b ≡ Unknown
+    right : (t : Bool) (far : ℕ) → fixed connection_layout (take 8 (b ∷ s)) ≡ t → pick t (ok far) (violation (fault 22 (first_wrong connection_layout (take 8 (b ∷ s))))) ≡ ok n → kind_of b ≡ None
     right true far e p = magic_no_type b (and_first (fits (bits O I O O I O I O) 128 b) _ e)
     right false far e p = absurd (violation_not_ok p)
 
-    long : (t : Bool) → pick t (refused 10) (parse_connection_header (take 8 (b ∷ s))) ≡ ok n → kind_of b ≡ Unknown
+    long : (t : Bool) → pick t (refused 10) (parse_connection_header (take 8 (b ∷ s))) ≡ ok n → kind_of b ≡ None
     long true p = absurd (refused_not_ok p)
     long false p = right (fixed connection_layout (take 8 (b ∷ s))) _ refl p
 
@@ -76,7 +76,7 @@ pub header_no_message : (r : Role) (bytes : List ℕ) (n : ℕ) → read_connect
 unfolding read_connection_header read_message parse_header typed pick
 header_no_message r [] n q = absurd (refused_not_ok q)
 header_no_message r (b ∷ s) n q =
-    ap (λ (k : Named). message_in (pick (ltb (length (b ∷ s)) 4) (refused 10) (with_body (length (b ∷ s)) (typed r (take 4 (b ∷ s)) k)))) (magic_first b s n q)
+    ap (λ (k : Option Kind). message_in (pick (ltb (length (b ∷ s)) 4) (refused 10) (with_body (length (b ∷ s)) (typed r (take 4 (b ∷ s)) k)))) (magic_first b s n q)
     ∙ go (ltb (length (b ∷ s)) 4)
   where
     go : (t : Bool) → message_in (pick t (refused 10) (violation (fault 20 0))) ≡ []

@@ -1,4 +1,5 @@
 -- The calls that concern the connection as a whole keep what is observed: no session number sees anything happen.
+use Rattle.std.specs.Prelude.{Option, Some}
 use mathlib.Core.Path.{◌≡◌, refl, sym, ap, ◌∙◌, subst}
 use mathlib.Core.Logic.{◌⊎◌, inl, inr}
 use mathlib.Core.Bool.{Bool, true, false, not, false≢true, true≢false, and-false}
@@ -24,8 +25,6 @@ use Rattle.state.specs.declared.Sides.TheVariants as sides
 use Rattle.state.specs.declared.Session.{Session}
 use Rattle.state.specs.declared.Stage.{Stage}
 use Rattle.state.specs.declared.Stage.TheVariants as stage
-use Rattle.state.specs.declared.Ping.{Ping}
-use Rattle.state.specs.declared.Ping.TheVariants as ping
 use Rattle.protocol.specs.Queue.{slot}
 use Rattle.protocol.specs.Message.{ConnectionMessage, whole, scope}
 use Rattle.protocol.specs.Connection.{own_shutdown, line_lost, at, role_of, exchanged, far_number, far_start, placed}
@@ -126,7 +125,7 @@ idle_look {r} x s far far' f = seen_path refl (go x.sides f.place) refl
 
 module _ (s : State) (o : Ok (setup_of s.connection) s) where
   -- an effect that concerns no session
-  abbrev line_effect : Stage → Ping → Ending → Report → List Output → Effect
+  abbrev line_effect : Stage → Option ℕ → Ending → Report → List Output → Effect
   line_effect st p en rep outs =
       record { number = 0; session = at s.connection 0; stage = st; last = s.connection.last; ping = p; ending = en; report = rep; outs = outs }
 
@@ -143,7 +142,7 @@ module _ (s : State) (o : Ok (setup_of s.connection) s) where
       idle_look (at s.connection n) sl (far_by st) (far_start s.connection)
       (subst (λ (b : Bool). Formed (role_of s.connection.stage) b (at s.connection n)) e (o.formed n h))
 
-  pub line_good : (k : Call) (st : Stage) (p : Ping) (en : Ending) (rep : Report) (outs : List Output) → is_turn k ≡ false
+  pub line_good : (k : Call) (st : Stage) (p : Option ℕ) (en : Ending) (rep : Report) (outs : List Output) → is_turn k ≡ false
       → queue_after s.connection s.queue k (accept (line_effect st p en rep outs)) ≡ s.queue → role_of st ≡ role_of s.connection.stage → far_number st < 65_536
       → (st ≡ s.connection.stage) ⊎ (exchanged s.connection.stage ≡ false)
       → ((m : ℕ) → reported m k rep ≡ []) → OfLine outs
@@ -234,7 +233,7 @@ module _ (s : State) (o : Ok (setup_of s.connection) s) where
       → Takes (Good (setup_of s.connection) s (log.ping cookie room)) (ping_rule s.connection cookie (length room))
   unfolding ping_rule Every
   ping_good cookie room _ live up _ _ =
-      line_good (log.ping cookie room) s.connection.stage (ping.Outstanding cookie) goes_on done (sent (msg.Ping cookie) ∷ []) refl refl refl o.far (inl refl)
+      line_good (log.ping cookie room) s.connection.stage (Some cookie) goes_on done (sent (msg.Ping cookie) ∷ []) refl refl refl o.far (inl refl)
       (λ m. refl) (_, refl) refl live refl refl (ping_reads (role_of s.connection.stage) cookie room)
       (and_both (ap not live) (greeted_is s.connection.stage ∙ not_false (exchanged s.connection.stage) up), tt) refl
 

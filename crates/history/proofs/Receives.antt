@@ -1,4 +1,5 @@
 -- A receive that takes something keeps what is observed: from the lemma about each message and one session.
+use Rattle.std.specs.Prelude.{Option, None}
 use mathlib.Core.Path.{◌≡◌, refl, sym, ap, ◌∙◌, subst}
 use mathlib.Core.Logic.{inl, inr}
 use mathlib.Core.Bool.{Bool, true, false, not, false≢true}
@@ -22,8 +23,6 @@ use Rattle.wire.proofs.Bounds.{Sent, message_sent, header_number}
 use Rattle.state.specs.declared.Session.{Session}
 use Rattle.state.specs.declared.Stage.{Stage}
 use Rattle.state.specs.declared.Stage.TheVariants as stage
-use Rattle.state.specs.declared.Ping.{Ping}
-use Rattle.state.specs.declared.Ping.TheVariants as ping
 use Rattle.protocol.specs.Queue.{slot}
 use Rattle.protocol.specs.Plan.{Plan, settle}
 use Rattle.protocol.specs.Message.{ConnectionMessage, no_operation_of, shutdown_of, error_of, ping_of, ping_ack_of, SessionMessage, Scope, whole, of_session, scope, numbered}
@@ -175,7 +174,7 @@ module _ (s : State) (o : Ok (setup_of s.connection) s) (input room : List ℕ) 
   -- ---- a message
 
   -- a message of the connection as a whole that gets no answer
-  quiet_whole : (m : Message) (x : ConnectionMessage) (p : Ping) (en : Ending) → scope m ≡ whole x → answer_of_all (whole x) ≡ []
+  quiet_whole : (m : Message) (x : ConnectionMessage) (p : Option ℕ) (en : Ending) → scope m ≡ whole x → answer_of_all (whole x) ≡ []
       → line_by_message (line_of s.connection) (whole x) ≡ line_of (continued en (record { sessions = set s.connection.sessions 0 (at s.connection 0); stage = s.connection.stage; over = s.connection.over; own = s.connection.own; last = s.connection.last; ping = p }))
       → ended_by_message (whole x) ≡ ended_as en → Good (setup_of s.connection) s (receive input room)
       (record { number = 0; session = at s.connection 0; stage = s.connection.stage; last = s.connection.last; ping = p; ending = en; report = message m false; outs = [] })
@@ -208,7 +207,7 @@ module _ (s : State) (o : Ok (setup_of s.connection) s) (input room : List ℕ) 
   whole_good m shutdown_of z up w = quiet_whole m shutdown_of s.connection.ping (ends shutdown_received) z refl refl refl
   whole_good m error_of z up w = quiet_whole m error_of s.connection.ping (ends error_received) z refl refl refl
   whole_good m (ping_of k) z up w = ping_good m k z up w
-  whole_good m (ping_ack_of k) z up w = λ _. quiet_whole m (ping_ack_of k) ping.None goes_on z refl refl refl
+  whole_good m (ping_ack_of k) z up w = λ _. quiet_whole m (ping_ack_of k) None goes_on z refl refl refl
 
   -- what is known if a session's message is taken
   abbrev Taking : ℕ → SessionMessage → Taken → Type 0

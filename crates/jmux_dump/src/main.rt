@@ -6,31 +6,15 @@
 #![tactic(auto)]
 
 use capture_reader::{FIRST_PLACE, read_at, read_first};
-use capture_rules::{Next, Step};
+use capture_rules::Step;
 use input_bytes::read_full;
-use refusal::{Fault, Refusal};
+use refusal::{Failure, Fault, ReadError, Refusal};
 use std::env::FillError;
 use std::io;
 use std::io::Read;
 use std::rt::Env;
-use text_line::Line;
-use text_message::{with_fault, with_message};
+use text_message::{FaultText, MessageText};
 use wire::{Message, Role};
-use wire_connection_header::ReadHeader;
-
-// The sender that the argument names.
-#[derive(Drop)]
-enum Sender {
-    Known(Role),
-    Unknown,
-}
-
-// The place to read on from, and whether to read on.
-#[derive(Drop)]
-struct Turn {
-    place: usize,
-    more: bool,
-}
 
 // Whether the program was started with an argument of this index.
 fn has_argument(rt: &impl Env, i: usize) -> bool {
@@ -38,102 +22,71 @@ fn has_argument(rt: &impl Env, i: usize) -> bool {
     !matches!(rt.arg(i, &mut start), Err(FillError::NotPresent))
 }
 
-fn argument(rt: &impl Env) -> Sender {
+// The sender that the argument names.
+fn argument(rt: &impl Env) -> Option<Role> {
     let mut word = [0u8; 6];
-    let Ok(n) = rt.arg(1, &mut word) else {
-        return Sender::Unknown;
-    };
+    let n = rt.arg(1, &mut word).ok()?;
     if has_argument(rt, 2) {
-        return Sender::Unknown;
+        return None;
     }
-    if check::same(&word[..n], b"client") {
-        return Sender::Known(Role::Client);
+    match &word[..n] {
+        b"client" => Some(Role::Client),
+        b"server" => Some(Role::Server),
+        _ => None,
     }
-    if check::same(&word[..n], b"server") {
-        return Sender::Known(Role::Server);
-    }
-    Sender::Unknown
-}
-
-fn put(rt: &impl Print, line: Line) -> io::Result<()> {
-    let bytes = line.bytes;
-    let n = line.length;
-    rt.write_all(text_line::first(&bytes, n))
-}
-
-// A line that begins with a place.
-fn at(place: usize) -> Line {
-    Line::new().number(place as u64)
 }
 
 // Prints the line of a message, after which reading goes on.
 fn put_message(rt: &impl Print, place: usize, m: Message) -> io::Result<bool> {
-    put(rt, with_message(at(place).text(b" "), m).text(b"\n"))?;
+    println!(rt; "{place} {}", MessageText(m))?;
     Ok(true)
 }
 
 // Prints the line of a refusal, after which reading stops.
 fn put_refusal(rt: &impl Print, place: usize, number: u8) -> io::Result<bool> {
-    put(
-        rt,
-        at(place)
-            .text(b" refused ")
-            .number(number as u64)
-            .text(b"\n"),
-    )?;
+    println!(rt; "{place} refused {number}")?;
     Ok(false)
 }
 
 // Prints the line of a violation; its own place counts from the one that the line begins with.
 fn put_fault(rt: &impl Print, place: usize, fault: Fault) -> io::Result<bool> {
-    put(rt, with_fault(at(place), fault).text(b"\n"))?;
+    println!(rt; "{place}{}", FaultText(fault))?;
     Ok(false)
 }
 
 // Prints the number of the connection header; nothing else depends on it.
 fn put_header(rt: &impl Print, capture: &[u8]) -> io::Result<()> {
     match wire_connection_header::read_connection_header(capture) {
-        ReadHeader::Number(n) => put(rt, at(0).text(b" header ").number(n as u64).text(b"\n")),
-        ReadHeader::Incomplete => {
+        Ok(n) => println!(rt; "0 header {n}"),
+        Err(ReadError::Incomplete) => {
             put_refusal(rt, 0, Refusal::Incomplete.number())?;
             Ok(())
         }
-        ReadHeader::Violated(fault) => {
+        Err(ReadError::Violated(fault)) => {
             put_fault(rt, 0, fault)?;
             Ok(())
         }
     }
 }
 
-// Prints the line of a place: a message, or the refusal that ends the reading.
-fn put_step(rt: &impl Print, place: usize, step: Step) -> io::Result<Turn> {
-    let next = step.next;
-    let more = match next {
-        Next::Message(m) => put_message(rt, place, m)?,
-        Next::Refused(r) => put_refusal(rt, place, r.number())?,
-        Next::Violated(fault) => put_fault(rt, place, fault)?,
+// Prints the line of a place, a message or the refusal that ends the reading, and returns the place to read on from.
+fn put_step(rt: &impl Print, place: usize, step: Step) -> io::Result<Option<usize>> {
+    let more = match step.next {
+        Ok(m) => put_message(rt, place, m)?,
+        Err(Failure::Refused(r)) => put_refusal(rt, place, r.number())?,
+        Err(Failure::Violated(fault)) => put_fault(rt, place, fault)?,
     };
-    Ok(Turn {
-        place: step.place,
-        more,
-    })
+    Ok(more.then_some(step.place))
 }
 
-// Prints each message until the first refusal, which keeps its place.
+// Prints each message until the first refusal, which keeps its place. A capture has no more messages than bytes.
 fn put_messages(rt: &impl Print, capture: &[u8], from: Role) -> io::Result<()> {
-    let mut turn = put_step(rt, FIRST_PLACE, read_first(capture, from))?;
-    for _ in 0..u64::MAX {
-        if !turn.more {
-            break;
-        }
-        turn = put_step(rt, turn.place, read_at(capture, from, turn.place))?;
+    let mut next = put_step(rt, FIRST_PLACE, read_first(capture, from))?;
+    for _ in 0..capture.len() {
+        let Some(place) = next else { break };
+        next = put_step(rt, place, read_at(capture, from, place))?;
     }
     Ok(())
-}
-
-fn put_length(rt: &impl Print, capture: &[u8]) -> io::Result<()> {
-    let length = capture.len() as u64;
-    put(rt, Line::new().text(b"length ").number(length).text(b"\n"))
 }
 
 // Whether the input has another byte.
@@ -154,13 +107,13 @@ fn dump(
         return rt.eprintln("the capture is longer than 524288 bytes");
     }
     let capture = text_line::first(bytes, n);
-    put_length(rt, capture)?;
+    println!(rt; "length {}", capture.len())?;
     put_header(rt, capture)?;
     put_messages(rt, capture, from)
 }
 
 fn main(rt: HostRuntime) -> io::Result<()> {
-    let Sender::Known(from) = argument(&rt) else {
+    let Some(from) = argument(&rt) else {
         return rt.eprintln("usage: jmux_dump client|server < CAPTURE");
     };
     dump(&rt, &mut rt.stdin(), &mut [0u8; 524288], from)

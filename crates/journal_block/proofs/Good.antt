@@ -1,22 +1,24 @@
 -- When a block is not good, by its length, its session number or its kind; and when it is: if it is the block of what stands in it.
-use mathlib.Core.Path.{◌≡◌, refl, sym, ap, ◌∙◌}
-use mathlib.Core.Bool.{Bool, true, false}
-use mathlib.Core.List.{List}
+use mathlib.Core.Path.{◌≡◌, refl, ap, ◌∙◌}
+use mathlib.Core.Bool.{Bool, true, false, ◌&&◌}
+use mathlib.Core.List.{List, [], ◌∷◌}
 use Prim.Native.Nat.{ℕ, suc, ◌+◌, ◌≤◌, ◌<◌}
-use native.Mathlib.Omega.{arith}
 use native.Mathlib.Numerals.{add-one}
 use borrow.Author.Tests.{le-leb, lt-leb}
-use lib.ListN.{length, get_or, take}
-use lib.Seq.{take_all}
+use lib.Dec.{eqb}
+use lib.ListN.{length, get_or}
+use lib.Pointwise.{pointwise}
 use Rattle.journal_rules.specs.Block.{journal_entry, block_of}
 use Rattle.journal_rules.specs.Region.{entry_in, equal_bytes, good}
 use Rattle.journal_rules.specs.Claims.{IsBlock}
-use Rattle.journal_rules.proofs.Blocks.{same_refl, same_eq, length_block, good_exactly}
+use Rattle.journal_rules.proofs.Blocks.{length_block, good_exactly}
 
-bools : (x y : Bool) → (x ≡ true → y ≡ true) → (y ≡ true → x ≡ true) → x ≡ y
-bools true y f g = sym (f refl)
-bools false true f g = g refl
-bools false false f g = refl
+pointwise_is : (xs ys : List ℕ) → pointwise eqb xs ys ≡ equal_bytes xs ys
+unfolding equal_bytes
+pointwise_is [] [] = refl
+pointwise_is [] (y ∷ ys) = refl
+pointwise_is (x ∷ xs) [] = refl
+pointwise_is (x ∷ xs) (y ∷ ys) = ap (λ (t : Bool). eqb x y && t) (pointwise_is xs ys)
 
 module _ (b : List ℕ) (k : ℕ) where
   pub bad_length : (length b ≡ 512 → ⊥) → false ≡ good k b
@@ -34,16 +36,10 @@ module _ (b : List ℕ) (k : ℕ) where
   unfolding good
   bad_kind g h = rw (le-leb (get_or b 4 0) 127 g, lt-leb (get_or b 5 0) 3 h)
 
-  pub good_same : (w : List ℕ) (x : Bool) → length b ≡ 512 → get_or b 4 0 ≤ 127 → get_or b 5 0 ≤ 3
-      → w ≡ block_of (k + 1) (journal_entry (get_or b 4 0) (get_or b 5 0))
-      → (x ≡ true → take 512 b ≡ take 512 w) → (take 512 b ≡ take 512 w → x ≡ true) → x ≡ good k b
+  pub good_same : (w : List ℕ) → get_or b 4 0 ≤ 127 → get_or b 5 0 ≤ 3
+      → w ≡ block_of (k + 1) (journal_entry (get_or b 4 0) (get_or b 5 0)) → pointwise eqb b w ≡ good k b
   unfolding good
-  good_same w x l g h e f f' =
+  good_same w g h e =
       let s : w ≡ block_of (suc k) (entry_in b) = e ∙ ap (λ (n : ℕ). block_of n (entry_in b)) (add-one k) in
-      let lw : length w ≡ 512 = ap length s ∙ length_block (suc k) (entry_in b) in
-      let tb : take 512 b ≡ b = take_all 512 b (omega arith) in
-      let tw : take 512 w ≡ w = take_all 512 w (omega arith) in
-      bools x (equal_bytes b (block_of (suc k) (entry_in b)))
-      (λ t. ap (equal_bytes b) (sym (sym tb ∙ f t ∙ tw ∙ s)) ∙ same_refl b)
-      (λ t. f' (ap (take 512) (same_eq b (block_of (suc k) (entry_in b)) t ∙ sym s)))
+      ap (pointwise eqb b) s ∙ pointwise_is b (block_of (suc k) (entry_in b))
       ∙ rw (le-leb (get_or b 4 0) 127 g, le-leb (get_or b 5 0) 3 h)

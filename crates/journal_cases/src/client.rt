@@ -27,13 +27,6 @@ pub(crate) enum Ask {
     Lost,
 }
 
-// Whether power lasts for a whole keep, or is cut after this many byte stores.
-#[derive(Drop)]
-enum Power {
-    Lasts,
-    CutAfter(usize),
-}
-
 // Makes a call of the engine.
 fn call(
     c: Connection,
@@ -57,19 +50,22 @@ fn written_by(called: Called, room: &[u8; ROOM_SIZE]) -> &[u8] {
     first(room, called.wrote)
 }
 
-// Stores what is due after a call, as far as power lasts.
+// Stores what is due after a call, with as many byte stores before power is cut, or all.
 fn store_due(
     region: &mut [u8],
     starts: Starts,
     called: Called,
     written: &[u8],
-    power: Power,
+    stores: Option<usize>,
 ) -> Starts {
-    let connection = called.connection;
-    let answer = called.answer;
-    match power {
-        Power::Lasts => keep(region, starts, connection, answer, written),
-        Power::CutAfter(stores) => keep_some(region, starts, connection, answer, written, stores),
+    let Called {
+        connection,
+        answer,
+        ..
+    } = called;
+    match stores {
+        None => keep(region, starts, connection, answer, written),
+        Some(stores) => keep_some(region, starts, connection, answer, written, stores),
     }
 }
 
@@ -78,18 +74,15 @@ fn step_with(
     rt: &impl Print,
     client: Client,
     ask: Ask,
-    power: Power,
+    stores: Option<usize>,
     region: &mut [u8],
     queue: &mut [u8; QUEUE_SIZE],
 ) -> io::Result<Client> {
     let mut room = [0u8; ROOM_SIZE];
-    let c = client.connection;
-    let called = call(c, ask, queue, &mut room);
+    let called = call(client.connection, ask, queue, &mut room);
     let written = written_by(called, &room);
-    let before = client.starts;
-    let starts = store_due(region, before, called, written, power);
-    let stopped = starts.stopped;
-    show::called(rt, ask, called, stopped, written)?;
+    let starts = store_due(region, client.starts, called, written, stores);
+    show::called(rt, ask, called, starts.stopped, written)?;
     let connection = called.connection;
     Ok(Client { connection, starts })
 }
@@ -102,7 +95,7 @@ pub(crate) fn step(
     region: &mut [u8],
     queue: &mut [u8; QUEUE_SIZE],
 ) -> io::Result<Client> {
-    step_with(rt, client, ask, Power::Lasts, region, queue)
+    step_with(rt, client, ask, None, region, queue)
 }
 
 // A step whose keep is cut after this many byte stores.
@@ -114,7 +107,7 @@ pub(crate) fn step_cut(
     region: &mut [u8],
     queue: &mut [u8; QUEUE_SIZE],
 ) -> io::Result<Client> {
-    step_with(rt, client, ask, Power::CutAfter(stores), region, queue)
+    step_with(rt, client, ask, Some(stores), region, queue)
 }
 
 // A new connection, for which no start is stored, with its headers exchanged.

@@ -8,6 +8,7 @@ mod show;
 
 use client::{Ask, Client, connect, step, step_cut};
 use engine::QUEUE_SIZE;
+use journal_text::RepairText;
 use std::io;
 
 // The sizes of the regions: one block, one block and a byte, and four blocks.
@@ -41,7 +42,7 @@ fn request(
     region: &mut [u8; FOUR_BLOCKS],
     queue: &mut [u8; QUEUE_SIZE],
 ) -> io::Result<()> {
-    show::case(rt, b"request", region.len())?;
+    println!(rt; "case request: region of {} bytes", region.len())?;
     let c = open_sent(rt, connect(rt, region, queue)?, 5, region, queue)?;
     step(rt, c, Ask::Receive(DATA_EOF_CLOSE, 5), region, queue)?;
     show::journal(rt, region)
@@ -53,7 +54,7 @@ fn retried(
     region: &mut [u8; FOUR_BLOCKS],
     queue: &mut [u8; QUEUE_SIZE],
 ) -> io::Result<()> {
-    show::case(rt, b"retried", region.len())?;
+    println!(rt; "case retried: region of {} bytes", region.len())?;
     let c = open_sent(rt, connect(rt, region, queue)?, 5, region, queue)?;
     let c = step(rt, c, Ask::Receive(ABORT, 5), region, queue)?;
     open_sent(rt, c, 5, region, queue)?;
@@ -66,7 +67,7 @@ fn reopened(
     region: &mut [u8; FOUR_BLOCKS],
     queue: &mut [u8; QUEUE_SIZE],
 ) -> io::Result<()> {
-    show::case(rt, b"reopened", region.len())?;
+    println!(rt; "case reopened: region of {} bytes", region.len())?;
     let c = open_sent(rt, connect(rt, region, queue)?, 5, region, queue)?;
     let c = step(rt, c, Ask::Abort(5), region, queue)?;
     let c = step(rt, c, Ask::Receive(ABORT, 5), region, queue)?;
@@ -81,7 +82,7 @@ fn lost_line(
     region: &mut [u8; FOUR_BLOCKS],
     queue: &mut [u8; QUEUE_SIZE],
 ) -> io::Result<()> {
-    show::case(rt, b"lost line", region.len())?;
+    println!(rt; "case lost line: region of {} bytes", region.len())?;
     let c = open_sent(rt, connect(rt, region, queue)?, 5, region, queue)?;
     let c = open_sent(rt, c, 7, region, queue)?;
     let c = step(rt, c, Ask::Open(9), region, queue)?;
@@ -95,7 +96,7 @@ fn full(
     region: &mut [u8; ONE_BLOCK],
     queue: &mut [u8; QUEUE_SIZE],
 ) -> io::Result<()> {
-    show::case(rt, b"full", region.len())?;
+    println!(rt; "case full: region of {} bytes", region.len())?;
     let c = open_sent(rt, connect(rt, region, queue)?, 5, region, queue)?;
     step(rt, c, Ask::Lost, region, queue)?;
     show::journal(rt, region)
@@ -107,7 +108,7 @@ fn full_and_up(
     region: &mut [u8; ONE_BLOCK],
     queue: &mut [u8; QUEUE_SIZE],
 ) -> io::Result<()> {
-    show::case(rt, b"full, line up", region.len())?;
+    println!(rt; "case full, line up: region of {} bytes", region.len())?;
     let c = open_sent(rt, connect(rt, region, queue)?, 5, region, queue)?;
     let c = step(rt, c, Ask::Receive(ABORT, 5), region, queue)?;
     let c = open_sent(rt, c, 7, region, queue)?;
@@ -121,11 +122,11 @@ fn cut(
     region: &mut [u8; FOUR_BLOCKS],
     queue: &mut [u8; QUEUE_SIZE],
 ) -> io::Result<()> {
-    show::case(rt, b"cut", region.len())?;
+    println!(rt; "case cut: region of {} bytes", region.len())?;
     let c = step(rt, connect(rt, region, queue)?, Ask::Open(5), region, queue)?;
     step_cut(rt, c, Ask::Turn, 511, region, queue)?;
     show::journal(rt, region)?;
-    show::repaired(rt, journal_store::repair(region))?;
+    rt.println(RepairText(journal_store::repair(region)))?;
     open_sent(rt, connect(rt, region, queue)?, 5, region, queue)?;
     show::journal(rt, region)
 }
@@ -136,7 +137,7 @@ fn wrong_region(
     region: &mut [u8; A_BYTE_MORE],
     queue: &mut [u8; QUEUE_SIZE],
 ) -> io::Result<()> {
-    show::case(rt, b"wrong region", region.len())?;
+    println!(rt; "case wrong region: region of {} bytes", region.len())?;
     open_sent(rt, connect(rt, region, queue)?, 5, region, queue)?;
     show::journal(rt, region)
 }

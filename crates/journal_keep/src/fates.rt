@@ -6,12 +6,12 @@ ghost use Rattle.laws.specs.Pick.{pick};
 ghost use Rattle.journal_history.specs.Due.{nothing_due, entry_due, has_open, tells_served, due_running, due_fate, due_for};
 ghost use Rattle.journal_keep.specs.Answers.{due_as};
 
+use refusal::Failure;
 use state::{Answer, Outcome, Session, Sides};
 
-// Nothing; that the number names a new session, whose start is not stored; or an entry of a kind.
-#[derive(Clone, Copy)]
+// What may be due: that the number names a new session, whose start is not stored, or an entry of a kind.
+#[derive(Clone, Copy, Debug, PartialEq, Eq)]
 pub enum Due {
-    Nothing,
     NewSession,
     Entry(u8),
 }
@@ -20,58 +20,45 @@ pub enum Due {
 pub(crate) fn has_open(written: &[u8]) -> bool
     ensures { result ≡ has_open written.now }
 {
-    if written.len() == 0 {
-        return false;
+    match written {
+        [] => false,
+        [first, ..] => first / 16 % 2 == 1,
     }
-    written[0] / 16 % 2 == 1
 }
 
 // Whether an answer says that a turn served the number.
-pub(crate) fn is_served(number: u8, answer: Answer) -> bool
+pub(crate) fn is_served(number: u8, answer: Result<Answer, Failure>) -> bool
     ensures { result ≡ tells_served number (answer_as answer) }
 {
     match answer {
-        Answer::Done => false,
-        Answer::Served(i) => i == number,
-        Answer::Header(_) => false,
-        Answer::Message {
-            message: _,
-            late: _,
-        } => false,
-        Answer::Refused(_) => false,
-        Answer::Violated(_) => false,
+        Ok(Answer::Served(served)) => served == number,
+        Ok(Answer::Done | Answer::Header(_) | Answer::Message { .. }) | Err(_) => false,
     }
 }
 
-fn due_running(sides: Sides) -> Due
+fn due_running(sides: Sides) -> Option<Due>
     ensures { due_as result ≡ due_running sides }
 {
     match sides {
-        Sides::Idle => Due::Nothing,
-        Sides::Opening(_) => Due::NewSession,
-        Sides::Live(_, _) => Due::Nothing,
+        Sides::Opening(_) => Some(Due::NewSession),
+        Sides::Idle | Sides::Live(_, _) => None,
     }
 }
 
 // The kind of a fate that is known, where the start is stored.
-fn due_if(stored: bool, kind: u8) -> Due
+fn due_if(stored: bool, kind: u8) -> Option<Due>
     ensures { due_as result ≡ pick stored (entry_due kind) nothing_due }
 {
-    if stored {
-        return Due::Entry(kind);
-    }
-    Due::Nothing
+    if stored { Some(Due::Entry(kind)) } else { None }
 }
 
 // What is due for a session that is not opened by this call.
-fn due_fate(stored: bool, x: Session) -> Due
+fn due_fate(stored: bool, x: Session) -> Option<Due>
     ensures { due_as result ≡ due_fate stored (fate_of x.outcome) x.sides }
 {
-    let sides = x.sides;
-    let outcome = x.outcome;
-    match outcome {
-        Outcome::None => Due::NewSession,
-        Outcome::Running => due_running(sides),
+    match x.outcome {
+        Outcome::None => Some(Due::NewSession),
+        Outcome::Running => due_running(x.sides),
         Outcome::Complete => due_if(stored, 1),
         Outcome::MayRetry => due_if(stored, 2),
         Outcome::MustNotRetry => due_if(stored, 3),
@@ -79,11 +66,11 @@ fn due_fate(stored: bool, x: Session) -> Due
 }
 
 // What is due for a session, which this call opened or not, and whose start is stored or not.
-pub(crate) fn due_for(opening: bool, stored: bool, x: Session) -> Due
+pub(crate) fn due_for(opening: bool, stored: bool, x: Session) -> Option<Due>
     ensures { due_as result ≡ due_for opening stored x }
 {
     if opening {
-        return Due::Entry(0);
+        return Some(Due::Entry(0));
     }
     due_fate(stored, x)
 }

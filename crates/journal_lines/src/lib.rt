@@ -8,43 +8,30 @@ mod lines;
 pub use blocks::{block_named, damage};
 pub use lines::{first_line, later_line};
 
-// What a line asks before there is a region: a region of a length, nothing, or nothing known.
-#[derive(Clone, Copy)]
-pub enum FirstLine {
-    Region(usize),
-    Skipped,
-    Wrong,
-}
+// A line that the format does not have.
+#[derive(Clone, Copy, Debug, PartialEq, Eq)]
+pub struct WrongLine;
 
 // A call that changes the region: the store of a session number and a kind, or a repair.
-#[derive(Clone, Copy)]
+#[derive(Clone, Copy, Debug, PartialEq, Eq)]
 pub enum Change {
     Store(u8, u8),
     Repair,
 }
 
-// How many byte stores are made before the power is cut.
-#[derive(Clone, Copy)]
-pub enum Stores {
-    All,
-    Count(usize),
-}
-
-// What a line asks where there is a region: a call of the journal, a byte at a place, the print of a block, nothing, or nothing
-// known.
-#[derive(Clone, Copy)]
-pub enum LaterLine {
-    Change(Change, Stores),
+// What a line asks where there is a region: a change, with as many byte stores before the power is cut, or all; a call that reads; a byte
+// at a place; or the print of a block.
+#[derive(Clone, Copy, Debug, PartialEq, Eq)]
+pub enum Asked {
+    Change(Change, Option<usize>),
     Read,
     List,
     Damage(usize, u8),
     Block(u32),
-    Skipped,
-    Wrong,
 }
 
 // What the first word of a line names where there is a region.
-#[derive(Clone, Copy)]
+#[derive(Clone, Copy, Debug, PartialEq, Eq)]
 pub enum Keyword {
     Store,
     Repair,
@@ -52,5 +39,4 @@ pub enum Keyword {
     List,
     Damage,
     Block,
-    Unknown,
 }

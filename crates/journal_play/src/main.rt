@@ -4,62 +4,58 @@
 // tested on a start, a store that is cut and a repair, against lines that are made by hand from the rules; scripts/journal/ has more.
 #![tactic(auto)]
 
-mod input;
 mod play;
 mod reason;
-mod show;
 
-use play::Play;
+use play::{Play, Stop};
+use std::alloc::Global;
 use std::env::FillError;
 use std::io;
-use std::io::Read;
+use std::io::{BufRead, BufReader, Read};
 use std::rt::Env;
 
 const USAGE: &str = "usage: journal_play < SCRIPT (docs/JOURNAL.md describes scripts)";
 
-// One line of the script, or one read of more of it.
-fn step(
-    rt: &(impl Print + Eprint),
-    stdin: &mut impl Read,
-    play: Play,
-    input: &mut [u8],
-    region: &mut [u8],
-) -> io::Result<Play> {
-    let place = input::next(stdin, play.place, input)?;
-    play::line(rt, play.at(place), input::line(input, place), region)
-}
+// How many bytes of a line are read: the longest right line that is not skipped, a store with its number of byte stores, has 17.
+const LONGEST: u64 = 4096;
 
-// The loop counts its turns up to a number that no run uses up, since nothing says that the input ends.
-fn run_all(
+// Plays the lines of a script up to its end or to a line that the format does not have.
+fn play_all(
     rt: &(impl Print + Eprint),
-    stdin: &mut impl Read,
-    input: &mut [u8],
-    region: &mut [u8],
+    alloc: Global,
+    script: &mut impl BufRead,
 ) -> io::Result<()> {
+    let mut region = [0u8; 70000];
     let mut play = Play::new();
-    for _ in 0..u64::MAX {
-        if !play.goes_on() {
+    let mut line = Vec::new(alloc);
+    for number in 1..=u64::MAX {
+        line.clear();
+        if script.by_ref().take(LONGEST).read_until(b'\n', &mut line)? == 0 {
             break;
         }
-        play = step(rt, stdin, play, input, region)?;
+        let text = line.strip_suffix(b"\n").unwrap_or(&line);
+        match play.line(rt, text, &mut region) {
+            Ok(()) => {}
+            Err(Stop::Failed(error)) => return Err(error),
+            Err(Stop::Wrong) => {
+                println!(rt; "script error at line {number}")?;
+                return reason::tell(rt, text, number, play.is_new());
+            }
+        }
+        if !line.ends_with(b"\n") {
+            script.skip_until(b'\n')?;
+        }
     }
     Ok(())
 }
 
 // Prints the usage line: on standard output for `--help`, on standard error for any other argument.
 fn usage(rt: &(impl Print + Eprint), word: &[u8]) -> io::Result<()> {
-    if check::same(word, b"--help") {
+    if matches!(word, b"--help") {
         rt.println(USAGE)
     } else {
         rt.eprintln(USAGE)
     }
-}
-
-// The longest right line that is not skipped, a store with its number of byte stores, has 17 bytes.
-fn play_input(rt: &(impl Print + Eprint), stdin: &mut impl Read) -> io::Result<()> {
-    let mut input = [0u8; 4096];
-    let mut region = [0u8; 70000];
-    run_all(rt, stdin, &mut input, &mut region)
 }
 
 // The first seven bytes of an argument are enough to tell whether it is `--help`.
@@ -68,6 +64,9 @@ fn main(rt: HostRuntime) -> io::Result<()> {
     match rt.arg(1, &mut word) {
         Ok(n) => usage(&rt, &word[..n]),
         Err(FillError::TooLong) => usage(&rt, b""),
-        Err(FillError::NotPresent) => play_input(&rt, &mut rt.stdin()),
+        Err(FillError::NotPresent) => {
+            let alloc = rt.alloc();
+            play_all(&rt, alloc, &mut BufReader::new(alloc, rt.stdin())?)
+        }
     }
 }

@@ -1,4 +1,3 @@
 -- The laws of reading and listing.
-pub mod Arrays
 pub mod Standing
 pub mod Steps

@@ -1,110 +1,96 @@
--- One block further: a column of bytes, the search for an answer, and the listing.
-use mathlib.Core.Path.{◌≡◌, refl, sym, ap, ap₂, ◌∙◌}
+-- One entry further: the search for an answer, and the listing.
+use mathlib.Core.Path.{◌≡◌, refl, sym, ap, ◌∙◌}
 use mathlib.Core.Bool.{Bool, true, false, not, ◌&&◌}
-use mathlib.Core.List.{List, [], ◌∷◌}
-use Prim.Native.Nat.{ℕ, suc, ◌+◌, ◌-◌, ◌*◌, ◌≤◌, ◌<◌}
+use mathlib.Core.List.{List, [], ◌∷◌, map}
+use Prim.Native.Nat.{ℕ, ◌+◌, ◌-◌, ◌≤◌, ◌<◌}
 use native.Mathlib.Omega.{arith}
 use native.Mathlib.Numerals.{add-one}
 use borrow.Author.Tests.{eq-eqb, ne_eqb, le-leb, lt-leb}
 use lib.Dec.{eqb}
-use lib.ListN.{get_or}
+use lib.ListN.{length, get_or, take, drop, drop_of_length-le, length-drop}
+use lib.Seq.{drop-cons, take_all}
 use Rattle.laws.specs.Pick.{pick}
-use Rattle.journal_rules.specs.Block.{JournalEntry, journal_entry}
-use Rattle.journal_rules.specs.Region.{block_at, entry_in}
+use Rattle.journal_rules.specs.Block.{JournalEntry}
+use Rattle.laws.specs.Result.{ok, refused}
+use Rattle.journal_rules.specs.Region.{sized, entries_of}
+use Rattle.journal_rules.specs.Calls.{read_call, list_call}
 use Rattle.journal_rules.specs.Listing.{is_answered, not_to_retry}
-use Rattle.journal_read.specs.Blocks.{entries_in, column_in, open_at}
-use Rattle.journal_read.proofs.Standing.{byte_in}
+use Rattle.journal_read.specs.declared.Entry.{Entry}
+use Rattle.journal_read.specs.Answers.{entry_as, begins_open}
 
-module _ (r : List ℕ) (n k : ℕ) where
-  pub column_on : (offset : ℕ) → k < n → column_in offset (n - k) k r ≡ get_or r (512 * k + offset) 0 ∷ column_in offset (n - (k + 1)) (k + 1) r
-  unfolding column_in
-  column_on offset h =
-      let e : n - k ≡ suc (n - (k + 1)) = omega arith in
-      ap (λ (m : ℕ). column_in offset m k r) e
-      ∙ ap (λ (m : ℕ). get_or r (512 * k + offset) 0 ∷ column_in offset (n - (k + 1)) m r) (sym (add-one k))
+-- the entries from an index on
+abbrev pub from : ℕ → List Entry → List JournalEntry
+from i es = map entry_as (drop i es)
 
-  pub column_end : (offset : ℕ) → n ≤ k → column_in offset (n - k) k r ≡ []
-  unfolding column_in
-  column_end offset h = let e : n - k ≡ 0 = omega arith in ap (λ (m : ℕ). column_in offset m k r) e
+pub from_end : (i : ℕ) (es : List Entry) → length es ≤ i → from i es ≡ []
+from_end i es h = ap (map entry_as) (drop_of_length-le es h)
 
-  pub entries_on : k < n → entries_in (n - k) k r ≡ entry_in (block_at r k) ∷ entries_in (n - (k + 1)) (k + 1) r
-  unfolding entries_in
-  entries_on h =
-      let e : n - k ≡ suc (n - (k + 1)) = omega arith in
-      ap (λ (m : ℕ). entries_in m k r) e ∙ ap (λ (m : ℕ). entry_in (block_at r k) ∷ entries_in (n - (k + 1)) m r) (sym (add-one k))
+pub rest_is : (es : List Entry) (i : ℕ) → begins_open (map entry_as (take (length es - i) (drop i es))) ≡ begins_open (from i es)
+rest_is es i = ap (λ (l : List Entry). begins_open (map entry_as l)) (take_all (length es - i) (drop i es) (omega (arith, length-drop i es)))
 
-  pub entries_end : n ≤ k → entries_in (n - k) k r ≡ []
-  unfolding entries_in
-  entries_end h = let e : n - k ≡ 0 = omega arith in ap (λ (m : ℕ). entries_in m k r) e
-
-  entry_is : entry_in (block_at r k) ≡ journal_entry (get_or r (512 * k + 4) 0) (get_or r (512 * k + 5) 0)
-  entry_is = ap₂ journal_entry (byte_in 4 k r (omega arith)) (byte_in 5 k r (omega arith))
+module _ (es : List Entry) (i : ℕ) (d : Entry) (h : i < length es) where
+  on : from i es ≡ entry_as (get_or es i d) ∷ from (i + 1) es
+  on =
+      ap (map entry_as) (drop-cons es i d h)
+      ∙ ap (λ (n : ℕ). entry_as (get_or es i d) ∷ from n es) (sym (add-one i))
 
   -- ---- the search for an answer
 
-  module _ (number : ℕ) (h : k < n) where
-    on : is_answered number (entries_in (n - k) k r)
-        ≡ is_answered number (journal_entry (get_or r (512 * k + 4) 0) (get_or r (512 * k + 5) 0) ∷ entries_in (n - (k + 1)) (k + 1) r)
-    on = ap (is_answered number) (entries_on h ∙ ap (λ (e : JournalEntry). e ∷ entries_in (n - (k + 1)) (k + 1) r) entry_is)
-
-    pub answered_start : get_or r (512 * k + 4) 0 ≡ number → get_or r (512 * k + 5) 0 ≡ 0 → false ≡ is_answered number (entries_in (n - k) k r)
+  module _ (number : ℕ) where
+    pub answered_here : (get_or es i d).number ≡ number → (get_or es i d).kind < 3
+        → not (eqb (get_or es i d).kind 0) ≡ is_answered number (from i es)
     unfolding is_answered pick
-    answered_start p z = sym (on ∙ rw (eq-eqb (get_or r (512 * k + 4) 0) number p, eq-eqb (get_or r (512 * k + 5) 0) 0 z))
+    answered_here p l =
+        let k : (get_or es i d).kind ≤ 2 = omega arith in
+        sym (ap (is_answered number) on ∙ rw (eq-eqb (get_or es i d).number number p, le-leb (get_or es i d).kind 2 k) (go (eqb (get_or es i d).kind 0)))
+      where
+        go : (t : Bool) → pick t false true ≡ not t
+        go true = refl
+        go false = refl
 
-    pub answered_here : get_or r (512 * k + 4) 0 ≡ number → (get_or r (512 * k + 5) 0 ≡ 0 → ⊥) → get_or r (512 * k + 5) 0 ≤ 2
-        → true ≡ is_answered number (entries_in (n - k) k r)
+    pub answered_other : ((get_or es i d).number ≡ number → ⊥) → is_answered number (from (i + 1) es) ≡ is_answered number (from i es)
     unfolding is_answered pick
-    answered_here p z l =
-        sym (on ∙ rw (eq-eqb (get_or r (512 * k + 4) 0) number p, ne_eqb (get_or r (512 * k + 5) 0) 0 z, le-leb (get_or r (512 * k + 5) 0) 2 l))
+    answered_other p = sym (ap (is_answered number) on ∙ rw (ne_eqb (get_or es i d).number number p))
 
-    pub answered_other : (get_or r (512 * k + 4) 0 ≡ number → ⊥)
-        → is_answered number (entries_in (n - (k + 1)) (k + 1) r) ≡ is_answered number (entries_in (n - k) k r)
+    pub answered_later : (get_or es i d).number ≡ number → 3 ≤ (get_or es i d).kind
+        → is_answered number (from (i + 1) es) ≡ is_answered number (from i es)
     unfolding is_answered pick
-    answered_other p = sym (on ∙ rw (ne_eqb (get_or r (512 * k + 4) 0) number p))
-
-    pub answered_later : get_or r (512 * k + 4) 0 ≡ number → (get_or r (512 * k + 5) 0 ≡ 0 → ⊥) → 2 < get_or r (512 * k + 5) 0
-        → is_answered number (entries_in (n - (k + 1)) (k + 1) r) ≡ is_answered number (entries_in (n - k) k r)
-    unfolding is_answered pick
-    answered_later p z l =
-        sym (on ∙ rw (eq-eqb (get_or r (512 * k + 4) 0) number p, ne_eqb (get_or r (512 * k + 5) 0) 0 z, lt-leb (get_or r (512 * k + 5) 0) 2 l))
-
-  pub answered_end : (number : ℕ) → n ≤ k → false ≡ is_answered number (entries_in (n - k) k r)
-  unfolding is_answered
-  answered_end number h = sym (ap (is_answered number) (entries_end h))
+    answered_later p l =
+        let z : (get_or es i d).kind ≡ 0 → ⊥ = λ e. omega arith in
+        let k : 2 < (get_or es i d).kind = omega arith in
+        sym (ap (is_answered number) on ∙ rw (eq-eqb (get_or es i d).number number p, ne_eqb (get_or es i d).kind 0 z, lt-leb (get_or es i d).kind 2 k))
 
   -- ---- the listing
 
-  pub not_open : 0 < get_or r (512 * k + 5) 0 → false ≡ open_at n k r
-  not_open z =
-      let p : 0 < get_or (block_at r k) 5 0 = omega (arith, byte_in 5 k r (omega arith)) in
-      rw (ne_eqb (get_or (block_at r k) 5 0) 0 (λ q. omega arith))
+  pub list_on : not_to_retry i (from i es)
+      ≡ pick (begins_open (from i es)) ((i + 1) ∷ not_to_retry (i + 1) (from (i + 1) es)) (not_to_retry (i + 1) (from (i + 1) es))
+  unfolding not_to_retry pick
+  list_on =
+      ap (not_to_retry i) on
+      ∙ step _ _ (eqb (get_or es i d).kind 0) (is_answered (get_or es i d).number (from (i + 1) es))
+      ∙ ap (λ (n : ℕ). pick (begins_open (entry_as (get_or es i d) ∷ from (i + 1) es)) (n ∷ not_to_retry n (from (i + 1) es)) (not_to_retry n (from (i + 1) es))) (sym (add-one i))
+      ∙ ap (λ (l : List JournalEntry). pick (begins_open l) ((i + 1) ∷ not_to_retry (i + 1) (from (i + 1) es)) (not_to_retry (i + 1) (from (i + 1) es))) (sym on)
+    where
+      step : (x y : List ℕ) (s a : Bool) → pick s (pick a x y) x ≡ pick (s && not a) y x
+      step x y true true = refl
+      step x y true false = refl
+      step x y false a = refl
 
-  pub open_unless : (x : Bool) → get_or r (512 * k + 5) 0 ≤ 0 → x ≡ is_answered (get_or r (512 * k + 4) 0) (entries_in (n - (k + 1)) (k + 1) r)
-      → not x ≡ open_at n k r
-  open_unless x z q =
-      let p : get_or (block_at r k) 5 0 ≡ 0 = omega (arith, byte_in 5 k r (omega arith)) in
-      let s : x ≡ is_answered (get_or (block_at r k) 4 0) (entries_in (n - suc k) (suc k) r) =
-      q ∙ ap₂ (λ (number m : ℕ). is_answered number (entries_in (n - m) m r)) (sym (byte_in 4 k r (omega arith))) (add-one k) in
-      rw (eq-eqb (get_or (block_at r k) 5 0) 0 p) (ap not s)
+-- ---- what a read told
 
-  either : (a b : Bool) (s : ℕ) (l : List ℕ) → pick a (pick b l (s ∷ l)) l ≡ pick (a && not b) (s ∷ l) l
-  unfolding pick
-  either true true s l = refl
-  either true false s l = refl
-  either false b s l = refl
+module _ (r : List ℕ) where
+  pub listed : (es : List JournalEntry) → ok es ≡ read_call r → ok (not_to_retry 0 es) ≡ list_call r
+  unfolding read_call list_call pick
+  listed es h = go (sized r) h
+    where
+      go : (s : Bool) → ok es ≡ pick s (ok (entries_of r)) (refused 8) → ok (not_to_retry 0 es) ≡ pick s (ok (not_to_retry 0 (entries_of r))) (refused 8)
+      go true e = let q : es ≡ entries_of r = cc in ap (λ (l : List JournalEntry). ok (not_to_retry 0 l)) q
+      go false e = absurd cc
 
-  pub list_on : k < n
-      → not_to_retry k (entries_in (n - k) k r)
-      ≡ pick (open_at n k r) ((k + 1) ∷ not_to_retry (k + 1) (entries_in (n - (k + 1)) (k + 1) r)) (not_to_retry (k + 1) (entries_in (n - (k + 1)) (k + 1) r))
-  unfolding not_to_retry
-  list_on h =
-      let e : entry_in (block_at r k) ∷ entries_in (n - (k + 1)) (k + 1) r ≡ entry_in (block_at r k) ∷ entries_in (n - suc k) (suc k) r =
-      ap (λ (m : ℕ). entry_in (block_at r k) ∷ entries_in (n - m) m r) (add-one k) in
-      ap (not_to_retry k) (entries_on h ∙ e)
-      ∙ either (eqb (entry_in (block_at r k)).kind 0) (is_answered (entry_in (block_at r k)).number (entries_in (n - suc k) (suc k) r))
-      (suc k) (not_to_retry (suc k) (entries_in (n - suc k) (suc k) r))
-      ∙ ap (λ (m : ℕ). pick (open_at n k r) (m ∷ not_to_retry m (entries_in (n - m) m r)) (not_to_retry m (entries_in (n - m) m r))) (sym (add-one k))
-
-  pub list_end : n ≤ k → not_to_retry k (entries_in (n - k) k r) ≡ []
-  unfolding not_to_retry
-  list_end h = ap (not_to_retry k) (entries_end h)
+  pub not_listed : (n : ℕ) → refused n ≡ read_call r → refused n ≡ list_call r
+  unfolding read_call list_call pick
+  not_listed n h = go (sized r) h
+    where
+      go : (s : Bool) → refused n ≡ pick s (ok (entries_of r)) (refused 8) → refused n ≡ pick s (ok (not_to_retry 0 (entries_of r))) (refused 8)
+      go true e = absurd cc
+      go false e = let q : n ≡ 8 = cc in ap refused q

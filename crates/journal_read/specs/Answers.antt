@@ -1,18 +1,23 @@
 -- What the answers of a read and a listing mean, in the terms of the journal's rules.
-use Rattle.std.specs.Prelude.{ℕ, List}
-use Rattle.laws.specs.Result.{Result, ok, refused}
-use Rattle.refusal.specs.Number.{refusal_number}
-use Rattle.journal_read.specs.declared.Counted.{Counted}
-use Rattle.journal_read.specs.declared.Counted.TheVariants as counted
-use Rattle.journal_read.specs.declared.Entries.{Entries}
-use Rattle.journal_read.specs.declared.Listing.{Listing}
+use Rattle.std.specs.Prelude.{ℕ, Bool, false, not, ◌&&◌, List, [], ◌∷◌, eqb, map, Result}
+use Rattle.arrayvec.specs.ArrayVec.{ArrayVec}
+use Rattle.laws.specs.Result.{Result as Answer}
+use Rattle.refusal.specs.declared.Refusal.{Refusal}
+use Rattle.refusal.specs.Failure.{or_refused}
+use Rattle.journal_rules.specs.Block.{JournalEntry, journal_entry}
+use Rattle.journal_rules.specs.Listing.{is_answered}
+use Rattle.journal_read.specs.declared.Entry.{Entry}
 
-abbrev pub counted_as : Counted → Result ℕ
-counted_as (counted.Count n) = ok n
-counted_as (counted.Refused r) = refused (refusal_number r)
+abbrev pub entry_as : Entry → JournalEntry
+entry_as e = journal_entry e.number e.kind
 
-abbrev pub entries_as : Entries → Result ℕ × List ℕ × List ℕ
-entries_as r = (counted_as r.answer, r.numbers, r.kinds)
+abbrev pub entries_as : Result (ArrayVec Entry) Refusal → Answer (List JournalEntry)
+entries_as a = or_refused (λ (entries : ArrayVec Entry). map entry_as entries.items) a
 
-abbrev pub listed_as : Listing → Result ℕ × List ℕ
-listed_as l = (counted_as l.answer, l.serials)
+abbrev pub listed_as : Result (ArrayVec ℕ) Refusal → Answer (List ℕ)
+listed_as a = or_refused (λ (serials : ArrayVec ℕ). serials.items) a
+
+-- a start stands first, and no entry behind it answers it
+abbrev pub begins_open : List JournalEntry → Bool
+begins_open [] = false
+begins_open (e ∷ es) = eqb e.kind 0 && not (is_answered e.number es)

@@ -1,3 +1,2 @@
--- What the answers of a read and a listing mean, and what stands in the blocks of a region.
+-- What the answers of a read and a listing mean.
 pub mod Answers
-pub mod Blocks

@@ -3,50 +3,39 @@
 
 ghost use Rattle.std.specs.Prelude.{◌≡◌, true};
 ghost use Rattle.journal_rules.specs.Region.{sized, blocks as region_blocks};
-ghost use Rattle.journal_region.specs.Search.{search_as, searched};
+ghost use Rattle.journal_region.specs.Search.{searched};
 
 use journal_block::is_good;
+use refusal::Refusal;
 
-// What a search finds: the region is not 1 to 128 whole blocks, the place of the first bad block, or how many blocks are all good.
-#[derive(Clone, Copy)]
+// What a search finds: the place of the first bad block, or how many blocks are all good.
+#[derive(Clone, Copy, Debug, PartialEq, Eq)]
 pub enum Search {
-    WrongSize,
     BadAt(u8),
     AllGood(u8),
 }
 
 // The first bad block of a region of 1 to 128 whole blocks.
-fn search_blocks(region: &[u8], blocks: usize) -> Search
+fn search_blocks(region: &[u8], blocks: u8) -> Search
     requires { (sized region.now ≡ true) × (blocks ≡ region_blocks region.now) }
-    ensures { search_as result ≡ searched region.now }
+    ensures { Ok result ≡ searched region.now }
 {
-    let mut k = 0;
-    while k < blocks {
-        let at = 512 * k;
-        let end = at + 512;
-        let place = k as u8;
-        if is_good(&region[at..end], place) {
-            k += 1;
-        } else {
+    for place in 0..blocks {
+        let at = 512 * usize::from(place);
+        if !is_good(&region[at..at + 512], place) {
             return Search::BadAt(place);
         }
     }
-    Search::AllGood(blocks as u8)
+    Search::AllGood(blocks)
 }
 
-// The first bad block of a region.
-pub fn search_region(region: &[u8]) -> Search
-    ensures { search_as result ≡ searched region.now }
+// The first bad block of a region; one that is not 1 to 128 whole blocks is refused.
+pub fn search_region(region: &[u8]) -> Result<Search, Refusal>
+    ensures { result ≡ searched region.now }
 {
     let blocks = region.len() / 512;
-    if region.len() % 512 != 0 {
-        return Search::WrongSize;
+    if region.len() % 512 != 0 || blocks < 1 || blocks > 128 {
+        return Err(Refusal::WrongRoom);
     }
-    if blocks < 1 {
-        return Search::WrongSize;
-    }
-    if blocks > 128 {
-        return Search::WrongSize;
-    }
-    search_blocks(region, blocks)
+    Ok(search_blocks(region, blocks as u8))
 }

@@ -65,7 +65,7 @@ pub row_refused : (store_refusal (replicate 513 0) (journal_entry 128 4) ≡ 8) 
 unfolding store_refusal pick
 row_refused = (refl, refl, refl)
 
-pub row_8 : (repair_call [] 512 ≡ (refused 8, [])) × ((read_call []).0 ≡ refused 8) × ((list_call []).0 ≡ refused 8)
+pub row_8 : (repair_call [] 512 ≡ (refused 8, [])) × (read_call [] ≡ refused 8) × (list_call [] ≡ refused 8)
 unfolding repair_call read_call list_call repaired pick
 row_8 = (refl, refl, refl)
 
@@ -80,12 +80,12 @@ unfolding repair_call repaired first_bad_from good equal_bytes block_of checked_
     bits_as_number xor
 row_repair = refl
 
--- an entry that is read, and a start that is listed, in arrays of 128
-pub row_read : read_call (block_of 1 (journal_entry 5 3)) ≡ (ok 1, 5 ∷ replicate 127 0, 3 ∷ replicate 127 0)
+-- an entry that is read, and a start that is listed
+pub row_read : read_call (block_of 1 (journal_entry 5 3)) ≡ ok (journal_entry 5 3 ∷ [])
 unfolding read_call entries_from good equal_bytes block_of checked_bytes pick crc_of remainder divided complemented difference generator message_bits lowest_first bits_as_number xor
 row_read = refl
 
-pub row_list : list_call (block_of 1 (journal_entry 5 0)) ≡ (ok 1, 1 ∷ replicate 127 0)
+pub row_list : list_call (block_of 1 (journal_entry 5 0)) ≡ ok (1 ∷ [])
 unfolding list_call not_to_retry is_answered entries_from good equal_bytes block_of checked_bytes pick crc_of remainder divided complemented difference generator message_bits lowest_first
     bits_as_number xor
 row_list = refl

@@ -1,5 +1,5 @@
 -- What the calls of the journal answer: a value or the number of a refusal.
-use Rattle.std.specs.Prelude.{ℕ, suc, ◌-◌, List, [], ◌++◌, map, leb, eqb, length, replicate}
+use Rattle.std.specs.Prelude.{ℕ, suc, List, leb, eqb}
 use Rattle.laws.specs.Pick.{pick}
 use Rattle.laws.specs.Result.{Result, ok, refused}
 use Rattle.journal_rules.specs.Block.{JournalEntry}
@@ -29,15 +29,10 @@ store_call r e j =
 unfoldable pub repair_call : List ℕ → ℕ → Result Reached × List ℕ
 repair_call r j = (if_sized r (pick (full r) none_bad (reached j (suc (first_bad r)))), repaired r j)
 
--- a list in an array of 128 places, zero behind its end
-abbrev pub in_array : List ℕ → List ℕ
-in_array s = s ++ replicate (128 - length s) 0
+-- what a read gives: the entries, or a refusal
+unfoldable pub read_call : List ℕ → Result (List JournalEntry)
+read_call r = if_sized r (entries_of r)
 
--- what a read or a listing gives: how many, or a refusal, and arrays that hold them
-unfoldable pub read_call : List ℕ → Result ℕ × List ℕ × List ℕ
-read_call r =
-    let es = pick (sized r) (entries_of r) [] in
-    (if_sized r (length es), in_array (map (λ (e : JournalEntry). e.number) es), in_array (map (λ (e : JournalEntry). e.kind) es))
-
-unfoldable pub list_call : List ℕ → Result ℕ × List ℕ
-list_call r = let ns = pick (sized r) (not_to_retry 0 (entries_of r)) [] in (if_sized r (length ns), in_array ns)
+-- what a listing gives: the serials of the starts that are not to be retried, or a refusal
+unfoldable pub list_call : List ℕ → Result (List ℕ)
+list_call r = if_sized r (not_to_retry 0 (entries_of r))

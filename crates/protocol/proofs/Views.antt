@@ -1,4 +1,5 @@
 -- What the state holds of a session number, in the words of what is observed of it, and that both call the same sessions ready.
+use Rattle.std.specs.Prelude.{Option, Some, None}
 use mathlib.Core.Path.{◌≡◌, refl, sym, ap, ◌∙◌}
 use mathlib.Core.Bool.{Bool, true, false, not, ◌&&◌, ◌||◌}
 use mathlib.Core.List.{List, [], ◌∷◌}
@@ -21,8 +22,6 @@ use Rattle.state.specs.declared.Sides.TheVariants as sides
 use Rattle.state.specs.declared.Session.{Session}
 use Rattle.state.specs.declared.Stage.{Stage}
 use Rattle.state.specs.declared.Stage.TheVariants as stage
-use Rattle.state.specs.declared.Ping.{Ping}
-use Rattle.state.specs.declared.Ping.TheVariants as ping
 use Rattle.protocol.specs.Slot.{slot_size}
 use Rattle.protocol.specs.Session.{after_data}
 use Rattle.protocol.specs.Ask.{sends, positive, sendable, due, ready_session, ready_in}
@@ -50,9 +49,9 @@ start_told_lem (stage.Fresh r) = refl
 start_told_lem stage.Started = refl
 start_told_lem (stage.Up r far) = refl
 
-pub awaits_is : (p : Ping) (k : ℕ) → awaits (pinging_of p) k ≡ matches p k
-awaits_is ping.None k = refl
-awaits_is (ping.Outstanding j) k = refl
+pub awaits_is : (p : Option ℕ) (k : ℕ) → awaits (pinging_of p) k ≡ matches p k
+awaits_is None k = refl
+awaits_is (Some j) k = refl
 
 pub data_leaves_lem : (close eof : Bool) → data_leaves close eof ≡ after_data close eof
 data_leaves_lem true eof = refl

@@ -1,5 +1,5 @@
 -- What each call decides. The order of the checks is 14, 2, 1, 8, 3, 4, 5, 12, then 6, 7, 13, 9, 10.
-use Rattle.std.specs.Prelude.{ℕ, Bool, true, false, not, List, [], ◌∷◌, eqb, ltb, leb}
+use Rattle.std.specs.Prelude.{ℕ, Bool, true, false, not, List, [], ◌∷◌, eqb, ltb, leb, Option, Some, None}
 use Rattle.laws.specs.Result.{Result, ok, refused, violation}
 use Rattle.laws.specs.Circle.{nearest}
 use Rattle.wire.specs.declared.Role.{Role}
@@ -10,8 +10,6 @@ use Rattle.wire.specs.Message.{is_client, is_server, read_message}
 use Rattle.wire.specs.Connection.{read_connection_header}
 use Rattle.state.specs.declared.Stage.{Stage}
 use Rattle.state.specs.declared.Stage.TheVariants as stage
-use Rattle.state.specs.declared.Ping.{Ping}
-use Rattle.state.specs.declared.Ping.TheVariants as ping
 use Rattle.state.specs.declared.Connection.{Connection}
 use Rattle.protocol.specs.Slot.{queue_size, turn_room}
 use Rattle.protocol.specs.Plan.{Plan, check, take, settle, and_then}
@@ -89,16 +87,16 @@ abort_rule c n partial room =
 unfoldable pub close_rule : Connection → ℕ → ℕ → Plan Effect
 close_rule c n room = up_and_running c (room_for 4 room (number_in n (asking c n (close_ask (role_of c.stage) (at c n)))))
 
-abbrev pub is_outstanding : Ping → Bool
-is_outstanding ping.None = false
-is_outstanding (ping.Outstanding k) = true
+abbrev pub is_outstanding : Option ℕ → Bool
+is_outstanding None = false
+is_outstanding (Some k) = true
 
 -- one ping may be outstanding
 unfoldable pub ping_rule : Connection → ℕ → ℕ → Plan Effect
 ping_rule c cookie room =
     up_and_running c
     (room_for 4 room
-    (check (is_outstanding c.ping) 13 (take (setting_ping c (ping.Outstanding cookie) done (sent (msg.Ping cookie) ∷ [])))))
+    (check (is_outstanding c.ping) 13 (take (setting_ping c (Some cookie) done (sent (msg.Ping cookie) ∷ [])))))
 
 -- for a server
 unfoldable pub shutdown_rule : Connection → ℕ → Plan Effect

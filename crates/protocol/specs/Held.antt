@@ -1,5 +1,5 @@
 -- What the state holds of a session number and of the connection, in the words of what is observed of them.
-use Rattle.std.specs.Prelude.{ℕ, Bool, true, false, List, take}
+use Rattle.std.specs.Prelude.{ℕ, Bool, true, false, List, take, Option, Some, None}
 use Rattle.ration.specs.declared.Ration.{Ration}
 use Rattle.state.specs.declared.Side.TheVariants as side
 use Rattle.state.specs.declared.Before.TheVariants as before
@@ -8,8 +8,6 @@ use Rattle.state.specs.declared.Sides.TheVariants as sides
 use Rattle.state.specs.declared.Session.{Session}
 use Rattle.state.specs.declared.Stage.{Stage}
 use Rattle.state.specs.declared.Stage.TheVariants as stage
-use Rattle.state.specs.declared.Ping.{Ping}
-use Rattle.state.specs.declared.Ping.TheVariants as ping
 use Rattle.protocol.specs.Observed.{Greeting, no_header, own_header, both_headers, Pinging, no_ping, pinged, Sending, silent, sending, Ends, unused, ends, Seen}
 
 -- ---- about a session number
@@ -46,6 +44,6 @@ greeting_of (stage.Fresh r) = no_header
 greeting_of stage.Started = own_header
 greeting_of (stage.Up r far) = both_headers far
 
-abbrev pub pinging_of : Ping → Pinging
-pinging_of ping.None = no_ping
-pinging_of (ping.Outstanding k) = pinged k
+abbrev pub pinging_of : Option ℕ → Pinging
+pinging_of None = no_ping
+pinging_of (Some k) = pinged k

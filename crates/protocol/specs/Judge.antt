@@ -1,5 +1,5 @@
 -- What a call that is taken does and reports, what a violation does, and the judging of a received message, which sees no bytes.
-use Rattle.std.specs.Prelude.{ℕ, Bool, false, not, List, [], ◌∷◌, map, eqb}
+use Rattle.std.specs.Prelude.{ℕ, Bool, false, not, List, [], ◌∷◌, map, eqb, Option, Some, None}
 use Rattle.laws.specs.Pick.{pick}
 use Rattle.laws.specs.Result.{Fault, fault}
 use Rattle.wire.specs.declared.Message.{Message}
@@ -7,8 +7,6 @@ use Rattle.wire.specs.declared.Message.TheVariants as msg
 use Rattle.state.specs.declared.Session.{Session}
 use Rattle.state.specs.declared.Stage.{Stage}
 use Rattle.state.specs.declared.Stage.TheVariants as stage
-use Rattle.state.specs.declared.Ping.{Ping}
-use Rattle.state.specs.declared.Ping.TheVariants as ping
 use Rattle.state.specs.declared.Connection.{Connection}
 use Rattle.state.specs.With.{with_session, with_stage, with_last, with_ping}
 use Rattle.protocol.specs.Plan.{Plan, check, take, settle}
@@ -39,7 +37,7 @@ pub record Effect : Type 0 where
   pub session : Session
   pub stage : Stage
   pub last : ℕ
-  pub ping : Ping
+  pub ping : Option ℕ
   pub ending : Ending
   pub report : Report
   pub outs : List Output
@@ -57,7 +55,7 @@ pub data Decision : Type 0 where
 
 -- ---- effects
 
-abbrev pub effect : ℕ → Session → Stage → ℕ → Ping → Ending → Report → List Output → Effect
+abbrev pub effect : ℕ → Session → Stage → ℕ → Option ℕ → Ending → Report → List Output → Effect
 effect n x s last p e r outs = record { number = n; session = x; stage = s; last = last; ping = p; ending = e; report = r; outs = outs }
 
 -- nothing changes; there is only a report and what is written
@@ -67,7 +65,7 @@ unchanged c r outs = effect 0 (at c 0) c.stage c.last c.ping goes_on r outs
 abbrev pub ends_by : Connection → Cause → Report → List Output → Effect
 ends_by c cause r outs = effect 0 (at c 0) c.stage c.last c.ping (ends cause) r outs
 
-abbrev pub setting_ping : Connection → Ping → Report → List Output → Effect
+abbrev pub setting_ping : Connection → Option ℕ → Report → List Output → Effect
 setting_ping c p r outs = effect 0 (at c 0) c.stage c.last p goes_on r outs
 
 abbrev pub setting_stage : Connection → Stage → Report → List Output → Effect
@@ -110,9 +108,9 @@ fault_of n = fault n (place_of n)
 abbrev pub breach_of : Connection → ℕ → Decision
 breach_of c n = breach c (fault_of n)
 
-abbrev pub matches : Ping → ℕ → Bool
-matches ping.None k = false
-matches (ping.Outstanding j) k = eqb j k
+abbrev pub matches : Option ℕ → ℕ → Bool
+matches None k = false
+matches (Some j) k = eqb j k
 
 -- 28 for a PingAck that matches no outstanding cookie
 abbrev pub judge_whole : Connection → Message → ConnectionMessage → Plan Effect
@@ -120,7 +118,7 @@ judge_whole c m no_operation_of = take (unchanged c (message m false) [])
 judge_whole c m shutdown_of = take (ends_by c shutdown_received (message m false) [])
 judge_whole c m error_of = take (ends_by c error_received (message m false) [])
 judge_whole c m (ping_of k) = take (unchanged c (message m false) (sent (msg.PingAck k) ∷ []))
-judge_whole c m (ping_ack_of k) = check (not (matches c.ping k)) 28 (take (setting_ping c ping.None (message m false) []))
+judge_whole c m (ping_ack_of k) = check (not (matches c.ping k)) 28 (take (setting_ping c None (message m false) []))
 
 -- `m` is the message, as it is reported
 abbrev pub judge_scope : Connection → Message → Scope → Decision

@@ -1,8 +1,10 @@
 -- The whole result of each call: answer, bytes used and written, connection, queue and room.
 use Rattle.std.specs.Prelude.{ℕ, ◌+◌, ◌-◌, Bool, List, [], ◌∷◌, ◌++◌, length, take}
+use Rattle.std.specs.Prelude as prelude
 use Rattle.laws.specs.Result.{Result, ok, refused, violation}
 use Rattle.laws.specs.Room.{overlaid}
-use Rattle.refusal.specs.Number.{refusal_number, fault_as}
+use Rattle.refusal.specs.declared.Failure.{Failure}
+use Rattle.refusal.specs.Failure.{or_failed}
 use Rattle.wire.specs.Message as wire
 use Rattle.wire.specs.Message.{body_length}
 use Rattle.wire.specs.Connection.{connection_header}
@@ -18,14 +20,16 @@ use Rattle.protocol.specs.Call.{start_rule, open_rule, put_rule, finish_rule, tu
 
 -- ---- answers
 
--- each case of an answer in the numbers and values of docs/PROTOCOL.md, "Refusals" and "Violations"
-abbrev pub answer_as : Answer → Result Report
-answer_as answer.Done = ok done
-answer_as (answer.Served n) = ok (served n)
-answer_as (answer.Header n) = ok (header_received n)
-answer_as (answer.Message m late) = ok (message m late)
-answer_as (answer.Refused r) = refused (refusal_number r)
-answer_as (answer.Violated f) = violation (fault_as f)
+-- what a call reports that is taken
+abbrev pub report_as : Answer → Report
+report_as answer.Done = done
+report_as (answer.Served n) = served n
+report_as (answer.Header n) = header_received n
+report_as (answer.Message m late) = message m late
+
+-- the answer, or why there is none, in the numbers and values of docs/PROTOCOL.md, "Refusals" and "Violations"
+abbrev pub answer_as : prelude.Result Answer Failure → Result Report
+answer_as a = or_failed report_as a
 
 -- what a call gives beside the buffers
 pub record Given : Type 0 where

@@ -1,12 +1,8 @@
 -- A ration is finite, 0 to 2,147,483,647, or endless.
-use Rattle.std.specs.Prelude.{ℕ, ◌+◌, ◌*◌, ◌-◌, Bool, true, false, eqb, leb}
+use Rattle.std.specs.Prelude.{ℕ, ◌+◌, ◌*◌, ◌-◌, Bool, true, false, eqb, leb, Option, Some, None}
 use Rattle.laws.specs.Pick.{pick}
 use Rattle.ration.specs.declared.Ration.{Ration}
 use Rattle.ration.specs.declared.Ration.TheVariants.{Finite, Endless}
-use Rattle.ration.specs.declared.Spent.{Spent}
-use Rattle.ration.specs.declared.Spent.TheVariants.{Left, NotEnough}
-use Rattle.ration.specs.declared.Grown.{Grown}
-use Rattle.ration.specs.declared.Grown.TheVariants.{To, PastLargest}
 
 -- the largest value of a finite ration, 0x7FFFFFFF
 abbrev pub largest : ℕ
@@ -36,13 +32,13 @@ abbrev pub minus : Ration → ℕ → Ration
 minus (Finite left) n = Finite (left - n)
 minus Endless n = Endless
 
--- what is left after n bytes, if they are allowed; else there is not enough
-unfoldable pub spend : Ration → ℕ → Spent
-spend r n = pick (allows r n) (Left (minus r n)) NotEnough
+-- what is left after n bytes, if they are allowed; else none, since there is not enough
+unfoldable pub spend : Ration → ℕ → Option Ration
+spend r n = pick (allows r n) (Some (minus r n)) None
 
--- the sum with n more bytes, if it is in range; else the largest would be passed
-unfoldable pub grow : Ration → ℕ → Grown
-grow r n = pick (in_range (plus r n)) (To (plus r n)) PastLargest
+-- the sum with n more bytes, if it is in range; else none, since the largest would be passed
+unfoldable pub grow : Ration → ℕ → Option Ration
+grow r n = pick (in_range (plus r n)) (Some (plus r n)) None
 
 -- a grant is refused if the ration is endless, or the sum is above the largest
 abbrev pub grantable : Ration → ℕ → Bool

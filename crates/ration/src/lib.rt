@@ -5,24 +5,10 @@ ghost use Rattle.std.specs.Prelude.{◌≡◌};
 ghost use Rattle.ration.specs.Ration.{largest, from_header, in_range, spend, grow};
 
 // A finite ration, or one that never runs out.
-#[derive(Clone, Copy)]
+#[derive(Clone, Copy, Debug, PartialEq, Eq)]
 pub enum Ration {
     Finite(u32),
     Endless,
-}
-
-// What spending does: what is left, or nothing because the ration does not allow it.
-#[derive(Clone, Copy)]
-pub enum Spent {
-    Left(Ration),
-    NotEnough,
-}
-
-// What growing does: the new ration, or nothing because it would pass the largest.
-#[derive(Clone, Copy)]
-pub enum Grown {
-    To(Ration),
-    PastLargest,
 }
 
 impl Ration {
@@ -50,36 +36,27 @@ impl Ration {
         }
     }
 
-    // The ration after n bytes are spent; a ration that is too small stays whole.
-    pub fn spend(self, n: u32) -> Spent
+    // The ration after n bytes are spent; none where the ration does not allow them.
+    pub fn spend(self, n: u32) -> Option<Ration>
         ensures { result ≡ spend self n }
     {
         match self {
-            Ration::Finite(left) => {
-                if n <= left {
-                    Spent::Left(Ration::Finite(left - n))
-                } else {
-                    Spent::NotEnough
-                }
-            }
-            Ration::Endless => Spent::Left(Ration::Endless),
+            Ration::Finite(left) if n <= left => Some(Ration::Finite(left - n)),
+            Ration::Finite(_) => None,
+            Ration::Endless => Some(Ration::Endless),
         }
     }
 
-    // The ration after an effective increment of n.
-    pub fn grow(self, n: u32) -> Grown
+    // The ration after an effective increment of n; none where it would pass the largest.
+    pub fn grow(self, n: u32) -> Option<Ration>
         ensures { result ≡ grow self n }
     {
         match self {
-            Ration::Finite(left) => {
-                let sum = (left as u64) + (n as u64);
-                if sum <= (Ration::LARGEST as u64) {
-                    Grown::To(Ration::Finite(sum as u32))
-                } else {
-                    Grown::PastLargest
-                }
-            }
-            Ration::Endless => Grown::To(Ration::Endless),
+            Ration::Finite(left) => match left.checked_add(n) {
+                Some(sum) if sum <= Ration::LARGEST => Some(Ration::Finite(sum)),
+                _ => None,
+            },
+            Ration::Endless => Some(self),
         }
     }
 }

@@ -1,2 +1,3 @@
--- The numbers of refusals and violations, and what a fault says.
+-- The numbers of refusals and violations, what a fault says, and what a result stands for that gives no answer.
 pub mod Number
+pub mod Failure

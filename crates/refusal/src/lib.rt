@@ -3,9 +3,10 @@
 
 ghost use Rattle.std.specs.Prelude.{◌≡◌};
 ghost use Rattle.refusal.specs.Number.{refusal_number, violation_number, fault_as};
+ghost use Rattle.refusal.specs.Failure.{failure_of};
 
 // Why a call is refused. Such a call changes nothing.
-#[derive(Clone, Copy)]
+#[derive(Clone, Copy, Debug, PartialEq, Eq)]
 pub enum Refusal {
     // The connection headers are not yet exchanged.
     NotExchanged,
@@ -38,7 +39,7 @@ pub enum Refusal {
 }
 
 // How the bytes received break the protocol. Such a receive ends the connection.
-#[derive(Clone, Copy)]
+#[derive(Clone, Copy, Debug, PartialEq, Eq)]
 pub enum Violation {
     // The first byte names no message type.
     UnknownType,
@@ -61,10 +62,65 @@ pub enum Violation {
 }
 
 // A violation, and where the byte at fault is: its offset from the first byte of the header. Refusals have no such byte.
-#[derive(Clone, Copy)]
+#[derive(Clone, Copy, Debug, PartialEq, Eq)]
 pub struct Fault {
     pub violation: Violation,
     pub offset: u16,
+}
+
+// Why a reader gives nothing: the bytes are not all there yet, or they break the protocol.
+#[derive(Clone, Copy, Debug, PartialEq, Eq)]
+pub enum ReadError {
+    Incomplete,
+    Violated(Fault),
+}
+
+// Why there is no answer: the call or the reading is refused, or the bytes read break the protocol.
+#[derive(Clone, Copy, Debug, PartialEq, Eq)]
+pub enum Failure {
+    Refused(Refusal),
+    Violated(Fault),
+}
+
+impl From<Fault> for ReadError {
+    ghost use Rattle.refusal.specs.declared.ReadError.{ReadError};
+
+    ghost from_gives = { λ f e. e ≡ ReadError.Violated f };
+
+    fn from(fault: Fault) -> ReadError {
+        ReadError::Violated(fault)
+    }
+}
+
+impl From<Refusal> for Failure {
+    ghost use Rattle.refusal.specs.declared.Failure.{Failure};
+
+    ghost from_gives = { λ r e. e ≡ Failure.Refused r };
+
+    fn from(refusal: Refusal) -> Failure {
+        Failure::Refused(refusal)
+    }
+}
+
+impl From<Fault> for Failure {
+    ghost use Rattle.refusal.specs.declared.Failure.{Failure};
+
+    ghost from_gives = { λ f e. e ≡ Failure.Violated f };
+
+    fn from(fault: Fault) -> Failure {
+        Failure::Violated(fault)
+    }
+}
+
+impl From<ReadError> for Failure {
+    ghost from_gives = { λ r e. e ≡ failure_of r };
+
+    fn from(error: ReadError) -> Failure {
+        match error {
+            ReadError::Incomplete => Failure::Refused(Refusal::Incomplete),
+            ReadError::Violated(fault) => Failure::Violated(fault),
+        }
+    }
 }
 
 impl Refusal {

@@ -4,65 +4,77 @@
 // tested on two sessions of a client, against lines that are made by hand from the rules; scripts/ has more.
 #![tactic(auto)]
 
-mod input;
 mod play;
 mod reason;
 mod show;
 
-use play::Play;
+use play::{Play, Stop};
+use std::alloc::Global;
 use std::env::FillError;
 use std::io;
-use std::io::Read;
+use std::io::{BufRead, BufReader, Read};
 use std::rt::Env;
 
 const USAGE: &str = "usage: replay < SCRIPT (docs/SCRIPTS.md describes scripts)";
 
-// One line of the script, or one read of more of it.
-fn step(
-    rt: &(impl Print + Eprint),
-    stdin: &mut impl Read,
-    play: Play,
-    input: &mut [u8],
-    queue: &mut [u8],
-    room: &mut [u8],
-) -> io::Result<Play> {
-    let place = input::next(stdin, play.place, input)?;
-    play::line(rt, play.at(place), input::line(input, place), queue, room)
+// How many bytes of a line are read: the longest right line, a receive of 66,000 bytes with its room, has 132,014.
+const LONGEST: u64 = 262144;
+
+// Plays a line: it may be skipped, make the connection or ask something of it.
+fn play_line(
+    rt: &impl Print,
+    alloc: Global,
+    play: &mut Option<Play>,
+    line: &[u8],
+) -> Result<(), Stop> {
+    if script_words::is_skipped(line) {
+        return Ok(());
+    }
+    match play {
+        Some(play) => play.line(rt, line),
+        None => {
+            *play = Some(Play::begin(alloc, line)?);
+            Ok(())
+        }
+    }
 }
 
-// The loop counts its turns up to a number that no run uses up, since nothing says that the input ends.
-fn run_all(
+// Plays the lines of a script up to its end or to a line that the format does not have.
+fn play_all(
     rt: &(impl Print + Eprint),
-    stdin: &mut impl Read,
-    input: &mut [u8],
-    queue: &mut [u8],
-    room: &mut [u8],
+    alloc: Global,
+    script: &mut impl BufRead,
 ) -> io::Result<()> {
-    let mut play = Play::new();
-    for _ in 0..u64::MAX {
-        if !play.goes_on() {
+    let mut play = None;
+    let mut line = Vec::new(alloc);
+    for number in 1..=u64::MAX {
+        line.clear();
+        if script.by_ref().take(LONGEST).read_until(b'\n', &mut line)? == 0 {
             break;
         }
-        play = step(rt, stdin, play, input, queue, room)?;
+        let text = line.strip_suffix(b"\n").unwrap_or(&line);
+        match play_line(rt, alloc, &mut play, text) {
+            Ok(()) => {}
+            Err(Stop::Failed(error)) => return Err(error),
+            Err(Stop::Wrong) => {
+                show::script_error(rt, number)?;
+                return reason::tell(rt, text, number, play.is_none());
+            }
+        }
+        if !line.ends_with(b"\n") {
+            script.skip_until(b'\n')?;
+        }
     }
     Ok(())
 }
 
 // Prints the usage line: on standard output for `--help`, on standard error for any other argument.
 fn usage(rt: &(impl Print + Eprint), word: &[u8]) -> io::Result<()> {
-    if check::same(word, b"--help") {
+    if matches!(word, b"--help") {
         rt.println(USAGE)
     } else {
         rt.eprintln(USAGE)
     }
-}
-
-// The longest right line, a receive of 66,000 bytes with its room, has 132,014 bytes.
-fn play_input(rt: &(impl Print + Eprint), stdin: &mut impl Read) -> io::Result<()> {
-    let mut input = [0u8; 262144];
-    let mut queue = [0xddu8; 70000];
-    let mut room = [0u8; 66000];
-    run_all(rt, stdin, &mut input, &mut queue, &mut room)
 }
 
 // The first seven bytes of an argument are enough to tell whether it is `--help`.
@@ -71,6 +83,9 @@ fn main(rt: HostRuntime) -> io::Result<()> {
     match rt.arg(1, &mut word) {
         Ok(n) => usage(&rt, &word[..n]),
         Err(FillError::TooLong) => usage(&rt, b""),
-        Err(FillError::NotPresent) => play_input(&rt, &mut rt.stdin()),
+        Err(FillError::NotPresent) => {
+            let alloc = rt.alloc();
+            play_all(&rt, alloc, &mut BufReader::new(alloc, rt.stdin())?)
+        }
     }
 }

@@ -1,177 +1,108 @@
-// One line of a script, played on a connection.
-use crate::input::Place;
-use crate::{reason, show};
-use engine::{Called, Connection, Role, Setup};
+// The lines of a script, played on a connection.
+use crate::show;
+use engine::{Called, Connection, Setup};
 use script_lines::{Beginning, Call, Command};
+use std::alloc::{AllocError, Global};
 use std::io;
-use text_line::first;
 
-// The byte that fills the room before each call.
+// The byte that fills the room before each call, and the one that fills the queue at first.
 const MARK: u8 = 0xee;
 
-// The connection, the length of its queue, whether the script has made it, and how far the script is read.
+const UNUSED: u8 = 0xdd;
+
+// Why a line stops the run.
+#[derive(Drop)]
+pub(crate) enum Stop {
+    // The format has no such line.
+    Wrong,
+    Failed(io::Error),
+}
+
+impl From<io::Error> for Stop {
+    fn from(error: io::Error) -> Stop {
+        Stop::Failed(error)
+    }
+}
+
+impl From<AllocError> for Stop {
+    fn from(error: AllocError) -> Stop {
+        Stop::Failed(io::Error::from(error))
+    }
+}
+
+// The connection that the first line made, with its queue and the room of its last call.
 #[derive(Drop)]
 pub(crate) struct Play {
-    pub connection: Connection,
-    pub queue: usize,
-    pub made: bool,
-    pub place: Place,
+    connection: Connection,
+    queue: Vec<u8>,
+    room: Vec<u8>,
 }
 
 impl Play {
-    // The state before the first line.
-    pub(crate) fn new() -> Play {
-        Play {
-            connection: Connection::new(Setup {
-                role: Role::Client,
-                header: 0,
-            }),
-            queue: 0,
-            made: false,
-            place: Place::new(),
+    // Plays the first line: it makes the connection.
+    pub(crate) fn begin(alloc: Global, line: &[u8]) -> Result<Play, Stop> {
+        let Beginning {
+            role,
+            header,
+            queue,
+        } = script_lines::begin(line).ok_or(Stop::Wrong)?;
+        Ok(Play {
+            connection: Connection::new(Setup { role, header }),
+            queue: vec![in alloc; UNUSED; queue]?,
+            room: Vec::new(alloc),
+        })
+    }
+
+    // Plays a line after the first: it makes a call, or prints the current state or a slot of the queue.
+    pub(crate) fn line(&mut self, rt: &impl Print, line: &[u8]) -> Result<(), Stop> {
+        match script_lines::command_of(line).ok_or(Stop::Wrong)? {
+            Command::Call(asked, room) => self.call(rt, asked, line, room)?,
+            Command::State => show::state(rt, self.connection)?,
+            Command::Queue(n) => show::slot(rt, &self.queue, n)?,
         }
+        Ok(())
     }
 
-    // The state with a new connection, and a queue of a length.
-    fn begun(mut self, setup: Setup, queue: usize) -> Play {
-        let connection = Connection::new(setup);
-        self.connection = connection;
-        self.queue = queue;
-        self.made = true;
-        self
+    // Makes the call in a room of n bytes, and prints its line.
+    fn call(&mut self, rt: &impl Print, asked: Call, line: &[u8], n: usize) -> io::Result<()> {
+        self.room.resize(n, MARK)?;
+        engine_marks::fill(&mut self.room, MARK);
+        let called = self.answer(asked, line);
+        let spoiled = !engine_marks::is_filled(&self.room, called.wrote, MARK);
+        show::called(rt, line, called, &self.room, spoiled)?;
+        self.connection = called.connection;
+        Ok(())
     }
 
-    pub(crate) fn at(mut self, place: Place) -> Play {
-        self.place = place;
-        self
-    }
-
-    pub(crate) fn goes_on(&self) -> bool {
-        let place = self.place;
-        place.going
-    }
-
-    // Stops the run at a line that the format does not have.
-    fn stopped_by_error(self, rt: &(impl Print + Eprint), line: &[u8]) -> io::Result<Play> {
-        let place = self.place;
-        show::script_error(rt, place.line)?;
-        reason::tell(rt, line, place.line, !self.made)?;
-        Ok(self.at(place.stopped()))
-    }
-}
-
-fn begin(rt: &(impl Print + Eprint), play: Play, line: &[u8]) -> io::Result<Play> {
-    let beginning = script_lines::begin(line);
-    match beginning {
-        Beginning::Made(role, header, queue) => Ok(play.begun(Setup { role, header }, queue)),
-        Beginning::Wrong => play.stopped_by_error(rt, line),
+    // Makes the call itself.
+    fn answer(&mut self, asked: Call, line: &[u8]) -> Called {
+        let c = self.connection;
+        let room = &mut self.room;
+        match asked {
+            Call::Start => engine::start(c, room),
+            Call::Open(n) => engine::open_session(c, n),
+            Call::Put(n) => put(c, n, line, &mut self.queue),
+            Call::Finish(n) => engine::finish(c, n),
+            Call::Turn => engine::turn(c, &mut self.queue, room),
+            Call::Grant(n, amount) => engine::grant(c, n, amount, room),
+            Call::Abort(n, partial) => engine::abort(c, n, partial, room),
+            Call::Close(n) => engine::close(c, n, room),
+            Call::Ping(cookie) => engine::ping(c, cookie, room),
+            Call::Shutdown => engine::shutdown(c, room),
+            Call::Lost => engine::lost_line(c),
+            Call::Receive => receive(c, line, room),
+        }
     }
 }
 
 fn put(c: Connection, n: u8, line: &[u8], queue: &mut [u8]) -> Called {
-    let mut data = [0u8; 1024];
-    let k = script_lines::payload(line, &mut data);
-    engine::put(c, n, first(&data, k), queue)
+    let mut bytes = [0u8; 1024];
+    let k = script_lines::payload(line, &mut bytes);
+    engine::put(c, n, &bytes[..k], queue)
 }
 
 fn receive(c: Connection, line: &[u8], room: &mut [u8]) -> Called {
-    let mut data = [0u8; 66000];
-    let k = script_lines::payload(line, &mut data);
-    engine::receive(c, first(&data, k), room)
-}
-
-// Makes the call itself.
-fn call(c: Connection, call: Call, line: &[u8], queue: &mut [u8], room: &mut [u8]) -> Called {
-    match call {
-        Call::Start => engine::start(c, room),
-        Call::Open(n) => engine::open_session(c, n),
-        Call::Put(n) => put(c, n, line, queue),
-        Call::Finish(n) => engine::finish(c, n),
-        Call::Turn => engine::turn(c, queue, room),
-        Call::Grant(n, amount) => engine::grant(c, n, amount, room),
-        Call::Abort(n, partial) => engine::abort(c, n, partial, room),
-        Call::Close(n) => engine::close(c, n, room),
-        Call::Ping(cookie) => engine::ping(c, cookie, room),
-        Call::Shutdown => engine::shutdown(c, room),
-        Call::Lost => engine::lost_line(c),
-        Call::Receive => receive(c, line, room),
-    }
-}
-
-// Prints the line of a call.
-fn tell(rt: &impl Print, line: &[u8], called: Called, room: &[u8]) -> io::Result<()> {
-    let spoiled = !engine_marks::is_filled(room, called.wrote, MARK);
-    show::called(rt, line, called, room, spoiled)
-}
-
-// Makes the call in the room that it is lent.
-fn in_room(
-    rt: &impl Print,
-    mut play: Play,
-    asked: Call,
-    line: &[u8],
-    queue: &mut [u8],
-    room: &mut [u8],
-) -> io::Result<Play> {
-    engine_marks::fill(room, MARK);
-    let c = play.connection;
-    let called = call(c, asked, line, queue, room);
-    tell(rt, line, called, room)?;
-    let connection = called.connection;
-    play.connection = connection;
-    Ok(play)
-}
-
-// Makes the call with the queue at its length and the first n bytes of the room.
-fn with_room(
-    rt: &(impl Print + Eprint),
-    play: Play,
-    asked: Call,
-    line: &[u8],
-    queue: &mut [u8],
-    room: &mut [u8],
-    n: usize,
-) -> io::Result<Play> {
-    let k = play.queue;
-    if k <= queue.len() {
-        if n <= room.len() {
-            return in_room(rt, play, asked, line, &mut queue[..k], &mut room[..n]);
-        }
-    }
-    play.stopped_by_error(rt, line)
-}
-
-// Plays a line after the first: it makes a call, or prints the current state or a slot of the queue.
-fn made_line(
-    rt: &(impl Print + Eprint),
-    play: Play,
-    line: &[u8],
-    queue: &mut [u8],
-    room: &mut [u8],
-) -> io::Result<Play> {
-    let asked = script_lines::command_of(line);
-    match asked {
-        Command::Call(asked, n) => return with_room(rt, play, asked, line, queue, room, n),
-        Command::State => show::state(rt, play.connection)?,
-        Command::Queue(n) => show::slot(rt, first(queue, play.queue), n)?,
-        Command::Wrong => return play.stopped_by_error(rt, line),
-    }
-    Ok(play)
-}
-
-// Plays a line: it may be skipped, make the connection or ask for something.
-pub(crate) fn line(
-    rt: &(impl Print + Eprint),
-    play: Play,
-    line: &[u8],
-    queue: &mut [u8],
-    room: &mut [u8],
-) -> io::Result<Play> {
-    if script_words::is_skipped(line) {
-        return Ok(play);
-    }
-    if play.made {
-        return made_line(rt, play, line, queue, room);
-    }
-    begin(rt, play, line)
+    let mut bytes = [0u8; 66000];
+    let k = script_lines::payload(line, &mut bytes);
+    engine::receive(c, &bytes[..k], room)
 }

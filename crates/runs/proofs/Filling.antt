@@ -1,4 +1,5 @@
 -- A client whose headers are exchanged opens every number in order, and serves every one by a turn: by induction over the calls.
+use Rattle.std.specs.Prelude.{None}
 use mathlib.Core.Path.{◌≡◌, refl, sym, ap, ◌∙◌}
 use mathlib.Core.Bool.{true, false, not}
 use mathlib.Core.List.{List, [], ◌∷◌, ◌++◌, map, append-nil}
@@ -22,7 +23,6 @@ use Rattle.state.specs.declared.Sides.TheVariants as sides
 use Rattle.state.specs.declared.Outcome.TheVariants as outcome
 use Rattle.state.specs.declared.Session.{Session}
 use Rattle.state.specs.declared.Stage.TheVariants as stage
-use Rattle.state.specs.declared.Ping.TheVariants as ping
 use Rattle.state.specs.declared.Connection.{Connection}
 use Rattle.protocol.specs.Slot.{queue_size, turn_room}
 use Rattle.protocol.specs.Queue.{slot, with_slot, turn_slot}
@@ -90,7 +90,7 @@ turn_begins own (ration.Finite n) =
 turn_begins own ration.Endless = refl
 
 abbrev connected : ℕ → ℕ → List Session → ℕ → Connection
-connected own far xs last = record { sessions = xs; stage = stage.Up role.Client far; over = false; own = own; last = last; ping = ping.None }
+connected own far xs last = record { sessions = xs; stage = stage.Up role.Client far; over = false; own = own; last = last; ping = None }
 
 abbrev pub state : ℕ → ℕ → List Session → ℕ → List ℕ → State
 state own far xs last queue = record { connection = connected own far xs last; queue = queue }

@@ -1,4 +1,5 @@
 -- All 128 numbers are ready at once, and the last is served by the 128th turn and not before: from what opens and turns do in order.
+use Rattle.std.specs.Prelude.{None}
 use mathlib.Core.Path.{◌≡◌, refl, sym, ap, subst, ◌∙◌}
 use mathlib.Core.Bool.{true, false, not}
 use mathlib.Core.List.{List, [], ◌∷◌, ◌++◌, append-nil}
@@ -16,7 +17,6 @@ use Rattle.wire.specs.Connection.{connection_header}
 use Rattle.wire.proofs.ConnectionLaws.{header_read_written}
 use Rattle.state.specs.declared.Session.{Session}
 use Rattle.state.specs.declared.Stage.TheVariants as stage
-use Rattle.state.specs.declared.Ping.TheVariants as ping
 use Rattle.state.specs.declared.Connection.{Connection}
 use Rattle.state.specs.declared.Setup.{Setup}
 use Rattle.protocol.specs.Slot.{queue_size, turn_room}
@@ -53,7 +53,7 @@ abbrev exchanged_entries : ℕ → ℕ → List Entry
 exchanged_entries own far = taken starts done (connection_header own) ∷ greets (connection_header far) (header_received far) [] ∷ []
 
 abbrev waits_for_header : ℕ → Connection
-waits_for_header own = record { sessions = replicate 128 blank; stage = stage.Started; over = false; own = own; last = 127; ping = ping.None }
+waits_for_header own = record { sessions = replicate 128 blank; stage = stage.Started; over = false; own = own; last = 127; ping = None }
 
 module _ (own far : ℕ) (hf : far < 65_536) (queue : List ℕ) where
   abbrev started : State

@@ -1,37 +1,30 @@
 -- The first words of the lines after a script's first line, and what each names.
-use Rattle.std.specs.Prelude.{ℕ, List, [], ◌∷◌}
-use Prim.Native.String.{String}
-use Rattle.laws.specs.Pick.{pick}
+use Rattle.std.specs.Prelude.{ℕ, List, [], ◌∷◌, Option, find}
 use Rattle.laws.specs.Codes.{codes}
 use Rattle.script_words.specs.Words.{same}
 use Rattle.script_lines.specs.declared.Name.{Name}
-use Rattle.script_lines.specs.declared.Name.TheVariants.{Start, Open, Put, Finish, Turn, Grant, Abort, Close, Ping, Shutdown, Lost, Receive, State, Queue, Unknown}
+use Rattle.script_lines.specs.declared.Name.TheVariants.{Start, Open, Put, Finish, Turn, Grant, Abort, Close, Ping, Shutdown, Lost, Receive, State, Queue}
 
-pub record NameRow : Type 0 where
-  pub word : String
-  pub name : Name
+-- in the order of the script format
+abbrev pub names : List Name
+names = Start ∷ Open ∷ Put ∷ Finish ∷ Turn ∷ Grant ∷ Abort ∷ Close ∷ Ping ∷ Shutdown ∷ Lost ∷ Receive ∷ State ∷ Queue ∷ []
 
-abbrev row : String → Name → NameRow
-row w n = record { word = w; name = n }
-
--- the words in the order of the script format, which the code checks in four parts
-abbrev pub from_receive : List NameRow
-from_receive = row "receive" Receive ∷ row "state" State ∷ row "queue" Queue ∷ []
-
-abbrev pub from_close : List NameRow
-from_close = row "close" Close ∷ row "ping" Ping ∷ row "shutdown" Shutdown ∷ row "lost" Lost ∷ from_receive
-
-abbrev pub from_finish : List NameRow
-from_finish = row "finish" Finish ∷ row "turn" Turn ∷ row "grant" Grant ∷ row "abort" Abort ∷ from_close
-
-abbrev pub names : List NameRow
-names = row "start" Start ∷ row "open" Open ∷ row "put" Put ∷ from_finish
-
--- the name of the first row that has a word
-abbrev pub name_among : List NameRow → List ℕ → Name
-name_among [] w = Unknown
-name_among (r ∷ rows) w = pick (same w (codes r.word)) r.name (name_among rows w)
+abbrev pub word_of : Name → List ℕ
+word_of Start = codes "start"
+word_of Open = codes "open"
+word_of Put = codes "put"
+word_of Finish = codes "finish"
+word_of Turn = codes "turn"
+word_of Grant = codes "grant"
+word_of Abort = codes "abort"
+word_of Close = codes "close"
+word_of Ping = codes "ping"
+word_of Shutdown = codes "shutdown"
+word_of Lost = codes "lost"
+word_of Receive = codes "receive"
+word_of State = codes "state"
+word_of Queue = codes "queue"
 
 -- what a word names
-unfoldable pub name_of : List ℕ → Name
-name_of w = name_among names w
+unfoldable pub name_of : List ℕ → Option Name
+name_of w = find (λ name. same w (word_of name)) names

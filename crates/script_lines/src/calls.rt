@@ -1,191 +1,119 @@
 // What a line asks.
 ghost use Rattle.std.specs.Prelude.{◌≡◌, ◌/◌, min, length};
 ghost use Rattle.script_words.specs.Hex.{bytes_from_hex, laid};
-ghost use Rattle.script_lines.specs.Calls.{with_room, alone as calls_alone, open_command, finish_command, queue_command, close_command, put_command, grant_command, session_command, abort_command, ping_command, receive_command, command_of, bytes_word, with_queue, with_header, beginning_of};
+ghost use Rattle.script_lines.specs.Calls.{with_room, alone as calls_alone, put_command, grant_command, is_partial as calls_is_partial, abort_command, receive_command, command_of, bytes_word, role_named, queue_length, beginning_of};
 
 use crate::names::name_of;
 use crate::{Beginning, Call, Command, Name};
 use call_slots::QUEUE_SIZE;
 use script_words::{
-    Id, Number, Short, Size, decimal_of, from_hex, has_more, head, id_of, is, is_bytes, short_of,
-    size_of, tail,
+    decimal_of, from_hex, has_more, head, id_of, is, is_bytes, short_of, size_of, tail,
 };
 use wire::Role;
 
-// A call with the room that the word after the first names, or 600 if there is no further word.
-fn with_room(call: Call, s: &[u8]) -> Command
+// The room of a line that names none.
+const USUAL_ROOM: usize = 600;
+
+// A call with the room that the word after the first names, or the usual one if there is no further word.
+fn with_room(call: Call, s: &[u8]) -> Option<Command>
     ensures { result ≡ with_room call s.now }
 {
-    if has_more(s) {
-        let room = size_of(tail(s), 66000);
-        return match room {
-            Size::Is(n) => Command::Call(call, n),
-            Size::Not => Command::Wrong,
-        };
-    }
-    Command::Call(call, 600)
+    let room = if has_more(s) {
+        size_of(tail(s), 66000)?
+    } else {
+        USUAL_ROOM
+    };
+    Some(Command::Call(call, room))
 }
 
 // The command of a line that has only its first word.
-fn alone(command: Command, s: &[u8]) -> Command
+fn alone(command: Command, s: &[u8]) -> Option<Command>
     ensures { result ≡ calls_alone command s.now }
 {
-    if has_more(s) { Command::Wrong } else { command }
+    (!has_more(s)).then_some(command)
 }
 
-// The lines whose one further word is a session number.
-fn open_session(rest: &[u8]) -> Command
-    ensures { result ≡ open_command rest.now }
-{
-    let n = id_of(rest);
-    match n {
-        Id::Is(n) => Command::Call(Call::Open(n), 600),
-        Id::Not => Command::Wrong,
-    }
-}
-
-fn finish(rest: &[u8]) -> Command
-    ensures { result ≡ finish_command rest.now }
-{
-    let n = id_of(rest);
-    match n {
-        Id::Is(n) => Command::Call(Call::Finish(n), 600),
-        Id::Not => Command::Wrong,
-    }
-}
-
-fn queue(rest: &[u8]) -> Command
-    ensures { result ≡ queue_command rest.now }
-{
-    let n = id_of(rest);
-    match n {
-        Id::Is(n) => Command::Queue(n),
-        Id::Not => Command::Wrong,
-    }
-}
-
-fn close(rest: &[u8]) -> Command
-    ensures { result ≡ close_command rest.now }
-{
-    let n = id_of(head(rest));
-    match n {
-        Id::Is(n) => with_room(Call::Close(n), rest),
-        Id::Not => Command::Wrong,
-    }
-}
-
-fn put(rest: &[u8]) -> Command
+fn put(rest: &[u8]) -> Option<Command>
     ensures { result ≡ put_command rest.now }
 {
-    let n = id_of(head(rest));
-    match n {
-        Id::Is(n) => {
-            if is_bytes(tail(rest), 1024) {
-                Command::Call(Call::Put(n), 600)
-            } else {
-                Command::Wrong
-            }
-        }
-        Id::Not => Command::Wrong,
-    }
+    let n = id_of(head(rest))?;
+    is_bytes(tail(rest), 1024).then_some(Command::Call(Call::Put(n), USUAL_ROOM))
 }
 
-fn grant_of(n: u8, rest: &[u8]) -> Command
-    ensures { result ≡ grant_command n rest.now }
+fn grant(rest: &[u8]) -> Option<Command>
+    ensures { result ≡ grant_command rest.now }
 {
-    let amount = decimal_of(head(rest));
-    match amount {
-        Number::Is(a) => with_room(Call::Grant(n, a), rest),
-        Number::Not => Command::Wrong,
-    }
+    let n = id_of(head(rest))?;
+    let rest = tail(rest);
+    with_room(Call::Grant(n, decimal_of(head(rest))?), rest)
 }
 
-fn grant(rest: &[u8]) -> Command
-    ensures { result ≡ session_command grant_command rest.now }
+// Whether a word asks for a partial abort or for one of the whole.
+fn is_partial(word: &[u8]) -> Option<bool>
+    ensures { result ≡ calls_is_partial word.now }
 {
-    let n = id_of(head(rest));
-    match n {
-        Id::Is(n) => grant_of(n, tail(rest)),
-        Id::Not => Command::Wrong,
+    if is(word, b"whole") {
+        Some(false)
+    } else if is(word, b"partial") {
+        Some(true)
+    } else {
+        None
     }
 }
 
-fn abort_of(n: u8, rest: &[u8]) -> Command
-    ensures { result ≡ abort_command n rest.now }
+fn abort(rest: &[u8]) -> Option<Command>
+    ensures { result ≡ abort_command rest.now }
 {
-    if is(head(rest), b"whole") {
-        return with_room(Call::Abort(n, false), rest);
-    }
-    if is(head(rest), b"partial") {
-        return with_room(Call::Abort(n, true), rest);
-    }
-    Command::Wrong
+    let n = id_of(head(rest))?;
+    let rest = tail(rest);
+    with_room(Call::Abort(n, is_partial(head(rest))?), rest)
 }
 
-fn abort(rest: &[u8]) -> Command
-    ensures { result ≡ session_command abort_command rest.now }
-{
-    let n = id_of(head(rest));
-    match n {
-        Id::Is(n) => abort_of(n, tail(rest)),
-        Id::Not => Command::Wrong,
-    }
-}
-
-fn ping(rest: &[u8]) -> Command
-    ensures { result ≡ ping_command rest.now }
-{
-    let cookie = short_of(head(rest));
-    match cookie {
-        Short::Is(n) => with_room(Call::Ping(n), rest),
-        Short::Not => Command::Wrong,
-    }
-}
-
-fn receive(rest: &[u8]) -> Command
+fn receive(rest: &[u8]) -> Option<Command>
     ensures { result ≡ receive_command rest.now }
 {
     if is_bytes(head(rest), 66000) {
         with_room(Call::Receive, rest)
     } else {
-        Command::Wrong
+        None
     }
 }
 
 // What a line after the first asks.
-pub fn command_of(line: &[u8]) -> Command
+#[tactic(auto, unfolding(crate::specs::Calls::command_of))]
+pub fn command_of(line: &[u8]) -> Option<Command>
     ensures { result ≡ command_of line.now }
 {
     let rest = tail(line);
-    let name = name_of(head(line));
-    match name {
+    match name_of(head(line))? {
         Name::Start => with_room(Call::Start, line),
-        Name::Open => open_session(rest),
+        Name::Open => Some(Command::Call(Call::Open(id_of(rest)?), USUAL_ROOM)),
         Name::Put => put(rest),
-        Name::Finish => finish(rest),
+        Name::Finish => Some(Command::Call(Call::Finish(id_of(rest)?), USUAL_ROOM)),
         Name::Turn => with_room(Call::Turn, line),
         Name::Grant => grant(rest),
         Name::Abort => abort(rest),
-        Name::Close => close(rest),
-        Name::Ping => ping(rest),
+        Name::Close => with_room(Call::Close(id_of(head(rest))?), rest),
+        Name::Ping => with_room(Call::Ping(short_of(head(rest))?), rest),
         Name::Shutdown => with_room(Call::Shutdown, line),
-        Name::Lost => alone(Command::Call(Call::Lost, 600), line),
+        Name::Lost => alone(Command::Call(Call::Lost, USUAL_ROOM), line),
         Name::Receive => receive(rest),
         Name::State => alone(Command::State, line),
-        Name::Queue => queue(rest),
-        Name::Unknown => Command::Wrong,
+        Name::Queue => Some(Command::Queue(id_of(rest)?)),
     }
 }
 
 // The word that holds the bytes of a put or a receive.
+#[tactic(auto, unfolding(crate::specs::Calls::bytes_word))]
 fn bytes_word(line: &[u8]) -> &[u8]
     ensures { result.now ≡ bytes_word line.now }
 {
     let rest = tail(line);
     if is(head(line), b"put") {
-        return tail(rest);
+        tail(rest)
+    } else {
+        head(rest)
     }
-    head(rest)
 }
 
 // Puts the bytes of a put or a receive at the start of dst, as many as fit, and returns their number.
@@ -195,44 +123,46 @@ pub fn payload(line: &[u8], dst: &mut [u8]) -> usize
     from_hex(bytes_word(line), dst)
 }
 
-fn with_queue(role: Role, header: u16, rest: &[u8]) -> Beginning
-    ensures { result ≡ with_queue role header rest.now }
+// The role that the first word of the first line names.
+fn role_named(word: &[u8]) -> Option<Role>
+    ensures { result ≡ role_named word.now }
 {
-    if is(head(rest), b"queue") {
-        let length = size_of(tail(rest), 70000);
-        return match length {
-            Size::Is(n) => Beginning::Made(role, header, n),
-            Size::Not => Beginning::Wrong,
-        };
+    if is(word, b"client") {
+        Some(Role::Client)
+    } else if is(word, b"server") {
+        Some(Role::Server)
+    } else {
+        None
     }
-    Beginning::Wrong
 }
 
-fn with_header(role: Role, rest: &[u8]) -> Beginning
-    ensures { result ≡ with_header role rest.now }
+// The length of the queue that follows the header number, or the usual one if nothing follows.
+fn queue_length(s: &[u8]) -> Option<usize>
+    ensures { result ≡ queue_length s.now }
 {
-    let header = short_of(head(rest));
-    match header {
-        Short::Is(n) => {
-            if has_more(rest) {
-                with_queue(role, n, tail(rest))
-            } else {
-                Beginning::Made(role, n, QUEUE_SIZE)
-            }
-        }
-        Short::Not => Beginning::Wrong,
+    if !has_more(s) {
+        return Some(QUEUE_SIZE);
+    }
+    let rest = tail(s);
+    if is(head(rest), b"queue") {
+        size_of(tail(rest), 70000)
+    } else {
+        None
     }
 }
 
 // What the first line says.
-pub fn begin(line: &[u8]) -> Beginning
+#[tactic(auto, unfolding(crate::specs::Calls::beginning_of))]
+pub fn begin(line: &[u8]) -> Option<Beginning>
     ensures { result ≡ beginning_of line.now }
 {
-    if is(head(line), b"client") {
-        return with_header(Role::Client, tail(line));
-    }
-    if is(head(line), b"server") {
-        return with_header(Role::Server, tail(line));
-    }
-    Beginning::Wrong
+    let role = role_named(head(line))?;
+    let rest = tail(line);
+    let header = short_of(head(rest))?;
+    let queue = queue_length(rest)?;
+    Some(Beginning {
+        role,
+        header,
+        queue,
+    })
 }

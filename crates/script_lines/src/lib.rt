@@ -24,20 +24,20 @@ pub enum Call {
     Receive,
 }
 
-// What a line asks: a call with a length of room, a print of the state or of a slot of the queue, or nothing known.
+// What a line asks: a call with a length of room, or a print of the state or of a slot of the queue.
 #[derive(Clone, Copy)]
 pub enum Command {
     Call(Call, usize),
     State,
     Queue(u8),
-    Wrong,
 }
 
-// What the first line says: a connection's role, header number and queue length, or nothing known.
+// What the first line says: a connection's role, header number and queue length.
 #[derive(Clone, Copy)]
-pub enum Beginning {
-    Made(Role, u16, usize),
-    Wrong,
+pub struct Beginning {
+    pub role: Role,
+    pub header: u16,
+    pub queue: usize,
 }
 
 // What a line's first word names.
@@ -57,5 +57,4 @@ pub enum Name {
     Receive,
     State,
     Queue,
-    Unknown,
 }

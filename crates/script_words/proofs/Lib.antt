@@ -1,5 +1,4 @@
--- Laws of words, digits and numbers.
-pub mod Values
+-- Laws of words and of digits.
 pub mod Texts
 pub mod Digits
 pub mod Splits

@@ -1,25 +1,11 @@
 -- Decimal numbers in a text: no sign, no leading zero, at most nine digits.
-use Rattle.std.specs.Prelude.{ℕ, ◌+◌, ◌*◌, ◌-◌, Bool, true, ◌&&◌, List, [], ◌∷◌, eqb, ltb, leb, length, get_or}
-use Rattle.laws.specs.Pick.{pick}
-use Rattle.script_words.specs.declared.Number.{Number}
-use Rattle.script_words.specs.declared.Number.TheVariants as number
-use Rattle.script_words.specs.declared.Id.{Id}
-use Rattle.script_words.specs.declared.Id.TheVariants as id
-use Rattle.script_words.specs.declared.Short.{Short}
-use Rattle.script_words.specs.declared.Short.TheVariants as short
-use Rattle.script_words.specs.declared.Size.{Size}
-use Rattle.script_words.specs.declared.Size.TheVariants as size
-
--- the codes of the digits 0 to 9
-abbrev pub is_digit : ℕ → Bool
-is_digit b = leb 48 b && leb b 57
-
-unfoldable pub all_decimal : List ℕ → Bool
-all_decimal [] = true
-all_decimal (b ∷ s) = is_digit b && all_decimal s
+use Rattle.std.specs.Prelude.{ℕ, ◌+◌, ◌*◌, ◌-◌, Bool, ◌&&◌, List, [], ◌∷◌, Option, Some, None, if◌then◌else◌, eqb, ltb, leb, length, get_or}
+use Rattle.std.specs.Bool.{then_some}
+use Rattle.std.specs.Char.{is_ascii_digit}
+use Rattle.std.specs.List.{list_all}
 
 -- the value of digits that follow a value: it is multiplied by ten before each further digit is added
-unfoldable pub value_from : ℕ → List ℕ → ℕ
+abbrev pub value_from : ℕ → List ℕ → ℕ
 value_from v [] = v
 value_from v (b ∷ s) = value_from (v * 10 + (b - 48)) s
 
@@ -28,26 +14,22 @@ abbrev pub leads_with_zero : List ℕ → Bool
 leads_with_zero s = ltb 1 (length s) && eqb (get_or s 0 0) 48
 
 -- a text that is all digits is its value
-unfoldable pub digits_of : List ℕ → Number
-digits_of s = pick (all_decimal s) (number.Is (value_from 0 s)) number.Not
+abbrev pub digits_of : List ℕ → Option ℕ
+digits_of s = then_some (list_all is_ascii_digit s) (value_from 0 s)
 
 -- one to nine digits with no leading zero
-unfoldable pub decimal_of : List ℕ → Number
-decimal_of s =
-    pick (eqb (length s) 0) number.Not
-    (pick (ltb 9 (length s)) number.Not (pick (leads_with_zero s) number.Not (digits_of s)))
-
--- a number of at most 255
-unfoldable pub id_from : Number → Id
-id_from (number.Is n) = pick (leb n 255) (id.Is n) id.Not
-id_from number.Not = id.Not
-
--- a number of at most 65,535
-unfoldable pub short_from : Number → Short
-short_from (number.Is n) = pick (leb n 65535) (short.Is n) short.Not
-short_from number.Not = short.Not
+unfoldable pub decimal_of : List ℕ → Option ℕ
+decimal_of s = if eqb (length s) 0 then None else if ltb 9 (length s) then None else if leads_with_zero s then None else digits_of s
 
 -- a number of at most a limit
-unfoldable pub size_from : ℕ → Number → Size
-size_from most (number.Is n) = pick (leb n most) (size.Is n) size.Not
-size_from most number.Not = size.Not
+abbrev pub at_most : ℕ → Option ℕ → Option ℕ
+at_most most (Some n) = then_some (leb n most) n
+at_most most None = None
+
+-- a session number: at most 255
+abbrev pub id_from : Option ℕ → Option ℕ
+id_from = at_most 255
+
+-- a number of 16 bits: at most 65,535
+abbrev pub short_from : Option ℕ → Option ℕ
+short_from = at_most 65535

@@ -4,52 +4,36 @@ ghost use Rattle.script_words.specs.Hex.{digit_of, all_hex, byte_of, bytes_from_
 
 use crate::words::is;
 
-// The value of a digit, or 16 for a byte that is not a digit.
-fn digit(b: u8) -> u8
+// The value of a digit.
+fn digit(b: u8) -> Option<u8>
     ensures { result ≡ digit_of b }
 {
-    if b < 48 {
-        return 16;
+    match b {
+        b'0'..=b'9' => Some(b - b'0'),
+        b'a'..=b'f' => Some(b - b'a' + 10),
+        _ => None,
     }
-    if b <= 57 {
-        return b - 48;
-    }
-    if b < 97 {
-        return 16;
-    }
-    if b <= 102 { b - 87 } else { 16 }
 }
 
 // The byte of two digits, or 0.
 fn byte(high: u8, low: u8) -> u8
     ensures { result ≡ byte_of high low }
 {
-    let h = digit(high);
-    let l = digit(low);
-    if h < 16 {
-        if l < 16 {
-            return h * 16 + l;
-        }
-        return 0;
+    match (digit(high), digit(low)) {
+        (Some(h), Some(l)) => h * 16 + l,
+        _ => 0,
     }
-    0
 }
 
 // Whether each byte of the text is a digit.
 fn all_hex(s: &[u8]) -> bool
     ensures { result ≡ all_hex s.now }
 {
-    let mut i = 0;
-    while i < s.len() {
-        if 15 < digit(s[i]) {
-            return false;
-        }
-        i += 1;
-    }
-    true
+    s.iter().all(|b| digit(*b).is_some())
 }
 
 // Whether a word represents bytes, at most `most`: `-`, or an even number of digits.
+#[tactic(auto, unfolding(crate::specs::Hex::is_bytes))]
 pub fn is_bytes(s: &[u8], most: usize) -> bool
     ensures { result ≡ is_bytes most s.now }
 {
@@ -57,33 +41,16 @@ pub fn is_bytes(s: &[u8], most: usize) -> bool
         return true;
     }
     let n = s.len() / 2;
-    if n == 0 {
-        return false;
-    }
-    if s.len() % 2 == 1 {
-        return false;
-    }
-    if most < n {
-        return false;
-    }
-    all_hex(s)
-}
-
-fn least(a: usize, b: usize) -> usize
-    ensures { result ≡ min a b }
-{
-    if a < b { a } else { b }
+    n != 0 && s.len() % 2 == 0 && n <= most && all_hex(s)
 }
 
 // Puts the bytes of a text at the start of dst, as many as fit, and returns their number.
 pub fn from_hex(s: &[u8], dst: &mut [u8]) -> usize
     ensures { (result ≡ min (length s.now / 2) (length dst.old)) × (dst.new ≡ laid dst.old (bytes_from_hex s.now) result) }
 {
-    let n = least(s.len() / 2, dst.len());
-    let mut i = 0;
-    while i < n {
-        dst[i] = byte(s[2 * i], s[2 * i + 1]);
-        i += 1;
+    let n = (s.len() / 2).min(dst.len());
+    for (i, place) in dst[..n].iter_mut().enumerate() {
+        *place = byte(s[2 * i], s[2 * i + 1]);
     }
     n
 }
@@ -92,19 +59,17 @@ fn glyph(d: u8) -> u8
     requires { d < 16 }
     ensures { result ≡ glyph_of d }
 {
-    if d < 10 { 48 + d } else { 87 + d }
+    if d < 10 { b'0' + d } else { b'a' - 10 + d }
 }
 
 // Puts the digits of bytes at the start of dst, for as many bytes as fit, and returns the number of bytes.
 pub fn to_hex(src: &[u8], dst: &mut [u8]) -> usize
     ensures { (result ≡ min (length src.now) (length dst.old / 2)) × (dst.new ≡ laid dst.old (text_of src.now) (2 * result)) }
 {
-    let n = least(src.len(), dst.len() / 2);
-    let mut i = 0;
-    while i < n {
-        dst[2 * i] = glyph(src[i] / 16);
-        dst[2 * i + 1] = glyph(src[i] % 16);
-        i += 1;
+    let n = src.len().min(dst.len() / 2);
+    for (i, b) in src[..n].iter().enumerate() {
+        dst[2 * i] = glyph(*b / 16);
+        dst[2 * i + 1] = glyph(*b % 16);
     }
     n
 }

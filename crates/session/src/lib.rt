@@ -3,16 +3,14 @@
 
 pub mod parts;
 
-use refusal::Refusal;
 use state::Session;
 
 // How many bytes of the queue each session number has.
 pub const SLOT_SIZE: u16 = 512;
 
 // A message of ours for a session: no detail, and an increment unshifted.
-#[derive(Clone, Copy)]
+#[derive(Clone, Copy, Debug, PartialEq, Eq)]
 pub enum Sent {
-    Nothing,
     Data { length: u16, opens: bool, eof: bool },
     Increment(u16),
     Abort(bool),
@@ -20,16 +18,9 @@ pub enum Sent {
 }
 
 // The session after a step, what is sent, and whether the message received was late.
-#[derive(Clone, Copy)]
+#[derive(Clone, Copy, Debug, PartialEq, Eq)]
 pub struct Taken {
     pub session: Session,
-    pub sent: Sent,
+    pub sent: Option<Sent>,
     pub late: bool,
-}
-
-// The result of a local call for its session.
-#[derive(Clone, Copy)]
-pub enum Stepped {
-    Taken(Taken),
-    Refused(Refusal),
 }

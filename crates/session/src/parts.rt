@@ -6,7 +6,8 @@ ghost use Rattle.session.specs.Step.{sent_as, stepped_as};
 ghost use Rattle.protocol.specs.Session.{becomes as session_becomes, dropped as session_dropped, settled as session_settled, after_data};
 ghost use Rattle.protocol.specs.Ask.{sends as ask_sends};
 
-use crate::{SLOT_SIZE, Sent, Stepped, Taken};
+use crate::{SLOT_SIZE, Sent, Taken};
+use refusal::Refusal;
 use state::{Outcome, Session, Side, Sides};
 
 // The state of the side that sends Data, after it.
@@ -26,15 +27,7 @@ pub fn after_data(close: bool, eof: bool) -> Side
 pub fn sends(sides: Sides) -> bool
     ensures { result ≡ ask_sends sides }
 {
-    match sides {
-        Sides::Idle => false,
-        Sides::Opening(_) => true,
-        Sides::Live(ours, _) => match ours {
-            Side::Open => true,
-            Side::Finished => false,
-            Side::Ended => false,
-        },
-    }
+    matches!(sides, Sides::Opening(_) | Sides::Live(Side::Open, _))
 }
 
 // The outcome that follows: only a running one changes.
@@ -42,11 +35,8 @@ fn becomes(was: Outcome, new: Outcome) -> Outcome
     ensures { result ≡ session_becomes was new }
 {
     match was {
-        Outcome::None => Outcome::None,
         Outcome::Running => new,
-        Outcome::Complete => Outcome::Complete,
-        Outcome::MayRetry => Outcome::MayRetry,
-        Outcome::MustNotRetry => Outcome::MustNotRetry,
+        _ => was,
     }
 }
 
@@ -61,15 +51,14 @@ pub fn dropped(x: Session) -> Session
 pub fn settled(x: Session, new: Outcome) -> Session
     ensures { result ≡ session_settled new x }
 {
-    let was = x.outcome;
-    x.with_outcome(becomes(was, new))
+    x.with_outcome(becomes(x.outcome, new))
 }
 
 // The call is taken.
-pub fn taken(x: Session, sent: Sent) -> Stepped
+pub fn taken(x: Session, sent: Option<Sent>) -> Result<Taken, Refusal>
     ensures { stepped_as result ≡ ok (record { session = x; sent = sent_as sent; late = false }) }
 {
-    Stepped::Taken(Taken {
+    Ok(Taken {
         session: x,
         sent,
         late: false,
@@ -81,8 +70,5 @@ pub fn fits_slot(waiting: u16, n: usize) -> bool
     ensures value { result ≡ leb n (slot_size - waiting) }
     ensures slot_size_value { SLOT_SIZE ≡ slot_size }
 {
-    if waiting <= SLOT_SIZE {
-        return n <= (SLOT_SIZE - waiting) as usize;
-    }
-    n == 0
+    n <= SLOT_SIZE.saturating_sub(waiting) as usize
 }

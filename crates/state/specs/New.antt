@@ -1,11 +1,10 @@
 -- A session number that was never used, and a connection just made.
-use Rattle.std.specs.Prelude.{false, replicate}
+use Rattle.std.specs.Prelude.{false, replicate, None}
 use Rattle.ration.specs.declared.Ration.TheVariants as ration
 use Rattle.state.specs.declared.Sides.TheVariants as sides
 use Rattle.state.specs.declared.Outcome.TheVariants as outcome
 use Rattle.state.specs.declared.Session.{Session}
 use Rattle.state.specs.declared.Stage.TheVariants as stage
-use Rattle.state.specs.declared.Ping.TheVariants as ping
 use Rattle.state.specs.declared.Connection.{Connection}
 use Rattle.state.specs.declared.Setup.{Setup}
 
@@ -30,5 +29,5 @@ fresh s =
       over = false;
       own = s.header;
       last = 127;
-      ping = ping.None;
+      ping = None;
     }

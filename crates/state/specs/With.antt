@@ -1,11 +1,10 @@
 -- A session and a connection with some parts set. Only these definitions and `New` make one from all its parts.
-use Rattle.std.specs.Prelude.{ℕ, Bool, List, set}
+use Rattle.std.specs.Prelude.{ℕ, Bool, List, set, Option}
 use Rattle.ration.specs.declared.Ration.{Ration}
 use Rattle.state.specs.declared.Sides.{Sides}
 use Rattle.state.specs.declared.Outcome.{Outcome}
 use Rattle.state.specs.declared.Session.{Session}
 use Rattle.state.specs.declared.Stage.{Stage}
-use Rattle.state.specs.declared.Ping.{Ping}
 use Rattle.state.specs.declared.Connection.{Connection}
 
 -- ---- a session
@@ -47,5 +46,5 @@ with_over over c = record { sessions = c.sessions; stage = c.stage; over = over;
 abbrev pub with_last : ℕ → Connection → Connection
 with_last n c = record { sessions = c.sessions; stage = c.stage; over = c.over; own = c.own; last = n; ping = c.ping }
 
-abbrev pub with_ping : Ping → Connection → Connection
+abbrev pub with_ping : Option ℕ → Connection → Connection
 with_ping p c = record { sessions = c.sessions; stage = c.stage; over = c.over; own = c.own; last = c.last; ping = p }

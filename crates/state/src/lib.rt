@@ -6,11 +6,11 @@ ghost use Rattle.state.specs.New.{fresh};
 ghost use Rattle.state.specs.With.{with_sides, with_rations, with_waiting, with_outcome, with_stage, with_ping};
 
 use ration::Ration;
-use refusal::{Fault, Refusal};
+use refusal::Failure;
 use wire::{Message, Role};
 
 // How far one end of a session is with its sending.
-#[derive(Clone, Copy)]
+#[derive(Clone, Copy, Debug, PartialEq, Eq)]
 pub enum Side {
     Open,
     Finished,
@@ -18,7 +18,7 @@ pub enum Side {
 }
 
 // The sides before a client's open; the far side was ended in the last two.
-#[derive(Clone, Copy)]
+#[derive(Clone, Copy, Debug, PartialEq, Eq)]
 pub enum Before {
     Idle,
     Finished,
@@ -26,7 +26,7 @@ pub enum Before {
 }
 
 // The two sides of a session number: none, ours opening, or ours and theirs.
-#[derive(Clone, Copy)]
+#[derive(Clone, Copy, Debug, PartialEq, Eq)]
 pub enum Sides {
     Idle,
     Opening(Before),
@@ -34,7 +34,7 @@ pub enum Sides {
 }
 
 // What becomes of a client's session (docs/PROTOCOL.md, "Outcomes"); the claims call it the fate.
-#[derive(Clone, Copy)]
+#[derive(Clone, Copy, Debug, PartialEq, Eq)]
 pub enum Outcome {
     None,
     Running,
@@ -44,7 +44,7 @@ pub enum Outcome {
 }
 
 // One session number.
-#[derive(Clone, Copy)]
+#[derive(Clone, Copy, Debug, PartialEq, Eq)]
 pub struct Session {
     pub sides: Sides,
     pub outbound: Ration,
@@ -55,65 +55,57 @@ pub struct Session {
 }
 
 // How far the connection headers are exchanged: not at all, a client's is sent, or both, with the far end's number.
-#[derive(Clone, Copy)]
+#[derive(Clone, Copy, Debug, PartialEq, Eq)]
 pub enum Stage {
     Fresh(Role),
     Started,
     Up(Role, u16),
 }
 
-// The ping that is not answered yet.
-#[derive(Clone, Copy)]
-pub enum Ping {
-    None,
-    Outstanding(u16),
-}
-
-// One end of a connection. `last` is the number that a turn served last, and `own` is our header number.
-#[derive(Clone, Copy)]
+// One end of a connection. `last` is the number that a turn served last, `own` is our header number, and `ping` is the cookie of the ping
+// that is not answered yet.
+#[derive(Clone, Copy, Debug, PartialEq, Eq)]
 pub struct Connection {
     pub sessions: [Session; 128],
     pub stage: Stage,
     pub over: bool,
     pub own: u16,
     pub last: u8,
-    pub ping: Ping,
+    pub ping: Option<u16>,
 }
 
 // The parts of a connection that are no sessions.
-#[derive(Clone, Copy)]
+#[derive(Clone, Copy, Debug, PartialEq, Eq)]
 pub struct Head {
     pub stage: Stage,
     pub over: bool,
     pub own: u16,
     pub last: u8,
-    pub ping: Ping,
+    pub ping: Option<u16>,
 }
 
 // What a connection is made from.
-#[derive(Clone, Copy)]
+#[derive(Clone, Copy, Debug, PartialEq, Eq)]
 pub struct Setup {
     pub role: Role,
     pub header: u16,
 }
 
-// What a call answers.
-#[derive(Clone, Copy)]
+// What a call that is taken answers.
+#[derive(Clone, Copy, Debug, PartialEq, Eq)]
 pub enum Answer {
     Done,
     Served(u8),
     Header(u16),
     Message { message: Message, late: bool },
-    Refused(Refusal),
-    Violated(Fault),
 }
 
-// What a call gives: the connection after it, the answer, the numbers of bytes used and written, and where in the input
-// the payload of a message is.
-#[derive(Clone, Copy)]
+// What a call gives: the connection after it, the answer or why there is none, the numbers of bytes used and written, and where in the
+// input the payload of a message is.
+#[derive(Clone, Copy, Debug, PartialEq, Eq)]
 pub struct Called {
     pub connection: Connection,
-    pub answer: Answer,
+    pub answer: Result<Answer, Failure>,
     pub used: usize,
     pub wrote: usize,
     pub start: usize,
@@ -135,59 +127,36 @@ impl Session {
     pub fn with_sides(self, sides: Sides) -> Session
         ensures { result ≡ with_sides sides self }
     {
-        let outbound = self.outbound;
-        let inbound = self.inbound;
-        let outcome = self.outcome;
-        Session {
-            sides,
-            outbound,
-            inbound,
-            waiting: self.waiting,
-            finish: self.finish,
-            outcome,
-        }
+        Session { sides, ..self }
     }
 
     // The session with other rations.
     pub fn with_rations(self, outbound: Ration, inbound: Ration) -> Session
         ensures { result ≡ with_rations outbound inbound self }
     {
-        let sides = self.sides;
-        let outcome = self.outcome;
         Session {
-            sides,
             outbound,
             inbound,
-            waiting: self.waiting,
-            finish: self.finish,
-            outcome,
+            ..self
         }
     }
 
     // The session with this many bytes waiting, and a finish asked for or not.
-    pub fn with_waiting(mut self, waiting: u16, finish: bool) -> Session
+    pub fn with_waiting(self, waiting: u16, finish: bool) -> Session
         ensures { result ≡ with_waiting waiting finish self }
     {
-        self.waiting = waiting;
-        self.finish = finish;
-        self
+        Session {
+            waiting,
+            finish,
+            ..self
+        }
     }
 
     // The session with another outcome.
     pub fn with_outcome(self, outcome: Outcome) -> Session
         ensures { result ≡ with_outcome outcome self }
     {
-        let sides = self.sides;
-        let outbound = self.outbound;
-        let inbound = self.inbound;
-        Session {
-            sides,
-            outbound,
-            inbound,
-            waiting: self.waiting,
-            finish: self.finish,
-            outcome,
-        }
+        Session { outcome, ..self }
     }
 }
 
@@ -196,14 +165,13 @@ impl Connection {
     pub fn new(setup: Setup) -> Connection
         ensures { result ≡ fresh setup }
     {
-        let role = setup.role;
         Connection {
             sessions: [Session::BLANK; 128],
-            stage: Stage::Fresh(role),
+            stage: Stage::Fresh(setup.role),
             over: false,
             own: setup.header,
             last: 127,
-            ping: Ping::None,
+            ping: None,
         }
     }
 
@@ -211,31 +179,13 @@ impl Connection {
     pub fn with_stage(self, stage: Stage) -> Connection
         ensures { result ≡ with_stage stage self }
     {
-        let sessions = self.sessions;
-        let ping = self.ping;
-        Connection {
-            sessions,
-            stage,
-            over: self.over,
-            own: self.own,
-            last: self.last,
-            ping,
-        }
+        Connection { stage, ..self }
     }
 
     // The connection with another ping outstanding, or none.
-    pub fn with_ping(self, ping: Ping) -> Connection
+    pub fn with_ping(self, ping: Option<u16>) -> Connection
         ensures { result ≡ with_ping ping self }
     {
-        let sessions = self.sessions;
-        let stage = self.stage;
-        Connection {
-            sessions,
-            stage,
-            over: self.over,
-            own: self.own,
-            last: self.last,
-            ping,
-        }
+        Connection { ping, ..self }
     }
 }

@@ -1,16 +1,13 @@
--- The fewest digits that hold a number are those of its decimal, from the definition of `places`.
-use mathlib.Core.Path.{◌≡◌, refl, sym, ap, ◌∙◌}
+-- A number in decimal, as the standard library prints it, is the last of its digits, and no fewer hold it.
+use mathlib.Core.Path.{◌≡◌, refl, sym, ◌∙◌}
 use mathlib.Core.Bool.{Bool, true, false}
-use Prim.Native.Nat.{ℕ, zero, suc, ◌+◌, ◌-◌, ◌/◌, ◌^◌, ◌≤◌, ◌<◌}
+use Prim.Native.Nat.{ℕ, zero, suc, ◌-◌, ◌/◌, ◌%◌, ◌^◌, ◌≤◌, ◌<◌}
 use native.Mathlib.Nat.{pow-suc, one-le-pow}
-use native.Mathlib.Numerals.{add-one}
 use native.Mathlib.Omega.{arith}
-use lib.Dec.{ltb}
-use borrow.Author.Tests.{ltb-true, ltb-false}
+use Rattle.std.specs.Prelude.{List, [], ◌∷◌, ◌++◌, ◌==◌, if◌then◌else◌}
+use Rattle.std.proofs.lemmas.List.{append_assoc, append-nil}
+use Rattle.std.specs.Fmt.{decimal, digits, digits_onto, digit_glyph}
 use Rattle.io.specs.Digits.{last_digits, IsDigitCount}
-use Rattle.laws.specs.Pick.{pick}
-use Rattle.laws.proofs.Pick.{yes, no}
-use Rattle.text_line.specs.Line.{places, decimal}
 
 -- one digit is enough exactly below ten
 one_digit : (n k : ℕ) → n < 10 → IsDigitCount 10 1 n k → k ≡ 1
@@ -32,19 +29,32 @@ more_digits n (suc k) h f =
     let low : 10 ^ k ≤ n / 10 = omega (arith, pow-suc 10 k) in
     (omega arith, omega (arith, f.1, pow-suc 10 (suc k)), λ _. rw d low)
 
-fewest_places : (more n k : ℕ) → n < 10 ^ suc more → IsDigitCount 10 1 n k → k ≡ places more n
-unfolding places
-fewest_places zero n k h f = one_digit n k (omega arith) f
-fewest_places (suc more) n k h f = go (ltb n 10) refl k f (fewest_places more (n / 10))
+last_of : (m n k : ℕ) (acc : List ℕ) → n < 10 ^ suc m → IsDigitCount 10 1 n k → digits_onto (suc m) 10 false n acc ≡ last_digits 10 k n ++ acc
+last_of m n zero acc h f = absurd (omega (arith, f.0))
+last_of zero n (suc j) acc h f =
+    let low : n < 10 = omega (arith, h) in
+    let alone : (n / 10 == 0) ≡ true = grind arith in
+    let one = one_digit n (suc j) low f in
+    let none : j ≡ 0 = omega (arith, one) in
+    rw (alone, none) refl
+last_of (suc m) n (suc j) acc h f = go (n / 10 == 0) refl (last_of m (n / 10) j (digit_glyph false (n % 10) ∷ acc))
   where
-    go : (b : Bool) → ltb n 10 ≡ b → (k : ℕ) → IsDigitCount 10 1 n k → ((j : ℕ) → n / 10 < 10 ^ suc more → IsDigitCount 10 1 (n / 10) j → j ≡ places more (n / 10))
-        → k ≡ pick (ltb n 10) 1 (places more (n / 10) + 1)
-    go true e k f rest = one_digit n k (ltb-true n 10 e) f ∙ sym (yes _ _ _ e)
-    go false e zero f rest = absurd (omega (arith, f.0))
-    go false e (suc k) f rest =
-        let big = ltb-false n 10 e in
-        ap suc (rest k (omega (arith, pow-suc 10 (suc more))) (more_digits n k big f)) ∙ sym (add-one _) ∙ sym (no _ _ _ e)
+    go : (b : Bool) → (n / 10 == 0) ≡ b
+        → (n / 10 < 10 ^ suc m → IsDigitCount 10 1 (n / 10) j → digits_onto (suc m) 10 false (n / 10) (digit_glyph false (n % 10) ∷ acc) ≡ last_digits 10 j (n / 10) ++ digit_glyph false (n % 10) ∷ acc)
+        → (if b then digit_glyph false (n % 10) ∷ acc else digits_onto (suc m) 10 false (n / 10) (digit_glyph false (n % 10) ∷ acc)) ≡ last_digits 10 (suc j) n ++ acc
+    go true e rest =
+        let low : n < 10 = grind arith in
+        let one = one_digit n (suc j) low f in
+        let none : j ≡ 0 = omega (arith, one) in
+        rw none refl
+    go false e rest =
+        let big : 10 ≤ n = grind arith in
+        let below : n / 10 < 10 ^ suc m = omega (arith, h, pow-suc 10 (suc m)) in
+        rest below (more_digits n j big f) ∙ sym (append_assoc (last_digits 10 j (n / 10)) (digit_glyph false (n % 10) ∷ []) acc)
+
+digits_are : (n : ℕ) → decimal n ≡ digits_onto (suc 63) 10 false n []
+unfolding digits
+digits_are n = refl
 
 pub fewest_decimal : (n k : ℕ) → n < 2 ^ 64 → IsDigitCount 10 1 n k → last_digits 10 k n ≡ decimal n
-unfolding decimal
-fewest_decimal n k h f = ap (λ (j : ℕ). last_digits 10 j n) (fewest_places 19 n k (omega arith) f)
+fewest_decimal n k h f = sym (digits_are n ∙ last_of 63 n k [] (omega arith) f ∙ append-nil (last_digits 10 k n))

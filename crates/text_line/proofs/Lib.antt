@@ -1,3 +1,4 @@
--- The laws of a line of text.
-pub mod Lines
+-- The laws of a line of text, of a number in decimal, and of bytes as text.
 pub mod Decimals
+pub mod Lines
+pub mod Digits

@@ -1,2 +1,3 @@
--- The definitions of a line of text.
+-- The definitions of a line of text, and of bytes as text.
 pub mod Line
+pub mod Hex

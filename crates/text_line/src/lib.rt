@@ -1,12 +1,10 @@
-// A line of text that is put together piece by piece: words, numbers, items and flags.
+// Flags and bytes in a text, the first bytes of a slice, and a line of text in fixed memory.
 #![tactic(auto)]
 
+mod hex;
+mod line;
 mod pieces;
 
-pub use pieces::first;
-// Text of at most 128 bytes: the first bytes, as many as the length says.
-#[derive(Clone, Copy)]
-pub struct Line {
-    pub bytes: [u8; 128],
-    pub length: usize,
-}
+pub use hex::Hex;
+pub use line::Line;
+pub use pieces::{Flag, first};

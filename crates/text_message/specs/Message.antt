@@ -1,7 +1,9 @@
--- The words of a message, its type and each item with its name; and those of a violation, its number and place.
+-- The words of a message, its type and each item with its name; of a violation, its number and place; and of a failure.
 use Rattle.std.specs.Prelude.{ℕ, List, ◌++◌}
 use Rattle.refusal.specs.declared.Fault.{Fault}
-use Rattle.refusal.specs.Number.{fault_as}
+use Rattle.refusal.specs.declared.Failure.{Failure}
+use Rattle.refusal.specs.declared.Failure.TheVariants as failure
+use Rattle.refusal.specs.Number.{refusal_number, fault_as}
 use Rattle.wire.specs.declared.Message.{Message}
 use Rattle.wire.specs.declared.Message.TheVariants.{NoOperation, Shutdown, Ping, PingAck, Error, IncrementRation, Abort, Close, Acknowledgment, Data}
 use Rattle.text_line.specs.Line.{item_text, flag_text}
@@ -23,3 +25,7 @@ message_text (Data opens close eof ack session length) =
 
 abbrev pub fault_text : Fault → List ℕ
 fault_text f = item_text " refused " (fault_as f).number ++ item_text " at " (fault_as f).place
+
+abbrev pub failure_text : Failure → List ℕ
+failure_text (failure.Refused r) = item_text " refused " (refusal_number r)
+failure_text (failure.Violated f) = fault_text f

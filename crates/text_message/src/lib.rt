@@ -1,87 +1,113 @@
-// The words of a message, and of a fault in one, put behind the end of a line of text.
+// The words of a message, of a fault in one, and of a failure to answer or to read.
 #![tactic(auto)]
 
-ghost use Rattle.wire.specs.declared.Message.TheVariants.{IncrementRation, Abort, Data};
-ghost use Rattle.text_line.specs.Line.{line_text, added, LineIs};
-ghost use Rattle.text_message.specs.Message.{message_text, fault_text};
+ghost use Rattle.std.specs.Prelude.{Some};
+ghost use Rattle.text_message.specs.Message.{message_text, fault_text, failure_text};
 
-use refusal::Fault;
-use text_line::Line;
+use refusal::{Failure, Fault};
+use std::fmt;
+use text_line::Flag;
 use wire::Message;
 
-fn increment(line: Line, shift: u8, session: u8, increment: u16) -> Line
-    ensures { LineIs result (added (line_text line) (message_text (IncrementRation shift session increment))) }
-{
-    line.item(b"increment id ", session as u64)
-        .item(b" shift ", shift as u64)
-        .item(b" increment ", increment as u64)
-}
+/// A message in words: its type, and each item with its name.
+#[derive(Clone, Copy)]
+pub struct MessageText(pub Message);
 
-fn abort(line: Line, partial: bool, session: u8, length: u16) -> Line
-    ensures { LineIs result (added (line_text line) (message_text (Abort partial session length))) }
-{
-    line.item(b"abort id ", session as u64)
-        .flag(b" partial", partial)
-        .item(b" length ", length as u64)
-}
+impl fmt::Display for MessageText {
+    ghost output = { λ m. Some (message_text m.0) };
 
-fn data(
-    line: Line,
-    opens: bool,
-    close: bool,
-    eof: bool,
-    ack: bool,
-    session: u8,
-    length: u16,
-) -> Line
-    ensures { LineIs result (added (line_text line) (message_text (Data opens close eof ack session length))) }
-{
-    line.item(b"data id ", session as u64)
-        .flag(b" open", opens)
-        .flag(b" close", close)
-        .flag(b" eof", eof)
-        .flag(b" ack", ack)
-        .item(b" length ", length as u64)
-}
-
-// The line with the words of a message behind its end.
-pub fn with_message(line: Line, m: Message) -> Line
-    ensures { LineIs result (added (line_text line) (message_text m)) }
-{
-    match m {
-        Message::NoOperation { length } => line.item(b"noop length ", length as u64),
-        Message::Shutdown { length } => line.item(b"shutdown length ", length as u64),
-        Message::Ping { cookie } => line.item(b"ping cookie ", cookie as u64),
-        Message::PingAck { cookie } => line.item(b"pingack cookie ", cookie as u64),
-        Message::Error { length } => line.item(b"error length ", length as u64),
-        Message::IncrementRation {
-            shift,
-            session,
-            increment: by,
-        } => increment(line, shift, session, by),
-        Message::Abort {
-            partial,
-            session,
-            length,
-        } => abort(line, partial, session, length),
-        Message::Close { session } => line.item(b"close id ", session as u64),
-        Message::Acknowledgment { session } => line.item(b"ack id ", session as u64),
-        Message::Data {
-            open,
-            close,
-            eof,
-            ack_required,
-            session,
-            length,
-        } => data(line, open, close, eof, ack_required, session, length),
+    fn fmt<W: fmt::Write>(&self, f: &mut fmt::Formatter<W>) -> fmt::Result {
+        match self.0 {
+            Message::NoOperation { length } => write!(f, "noop length {length}"),
+            Message::Shutdown { length } => write!(f, "shutdown length {length}"),
+            Message::Ping { cookie } => write!(f, "ping cookie {cookie}"),
+            Message::PingAck { cookie } => write!(f, "pingack cookie {cookie}"),
+            Message::Error { length } => write!(f, "error length {length}"),
+            Message::IncrementRation {
+                shift,
+                session,
+                increment,
+            } => write!(
+                f,
+                "increment id {session} shift {shift} increment {increment}"
+            ),
+            Message::Abort {
+                partial,
+                session,
+                length,
+            } => {
+                let partial = Flag {
+                    name: " partial",
+                    set: partial,
+                };
+                write!(f, "abort id {session}{partial} length {length}")
+            }
+            Message::Close { session } => write!(f, "close id {session}"),
+            Message::Acknowledgment { session } => write!(f, "ack id {session}"),
+            Message::Data {
+                open,
+                close,
+                eof,
+                ack_required,
+                session,
+                length,
+            } => {
+                let opens = Flag {
+                    name: " open",
+                    set: open,
+                };
+                let closes = Flag {
+                    name: " close",
+                    set: close,
+                };
+                let ends = Flag {
+                    name: " eof",
+                    set: eof,
+                };
+                let acks = Flag {
+                    name: " ack",
+                    set: ack_required,
+                };
+                write!(
+                    f,
+                    "data id {session}{opens}{closes}{ends}{acks} length {length}"
+                )
+            }
+        }
     }
 }
 
-// The line with the number and the place of a violation behind its end.
-pub fn with_fault(line: Line, fault: Fault) -> Line
-    ensures { LineIs result (added (line_text line) (fault_text fault)) }
-{
-    let violation = fault.violation;
-    line.item(b" refused ", violation.number() as u64)
-        .item(b" at ", fault.place() as u64)
+/// A fault in words: the number and the place of the violation.
+#[derive(Clone, Copy)]
+pub struct FaultText(pub Fault);
+
+impl fmt::Display for FaultText {
+    ghost output = { λ fault. Some (fault_text fault.0) };
+
+    fn fmt<W: fmt::Write>(&self, f: &mut fmt::Formatter<W>) -> fmt::Result {
+        let number = self.0.violation.number();
+        let place = self.0.place();
+        write!(f, " refused {number} at {place}")
+    }
+}
+
+/// A failure in words: the number of the refusal, or the number and the place of the violation.
+#[derive(Clone, Copy)]
+pub struct FailureText(pub Failure);
+
+impl fmt::Display for FailureText {
+    ghost output = { λ failure. Some (failure_text failure.0) };
+
+    fn fmt<W: fmt::Write>(&self, f: &mut fmt::Formatter<W>) -> fmt::Result {
+        match self.0 {
+            Failure::Refused(refusal) => {
+                let number = refusal.number();
+                write!(f, " refused {number}")
+            }
+            Failure::Violated(fault) => {
+                let fault = FaultText(fault);
+                write!(f, "{fault}")
+            }
+        }
+    }
 }

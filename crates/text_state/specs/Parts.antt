@@ -1,5 +1,5 @@
 -- The words of the parts of a state, by the script format.
-use Rattle.std.specs.Prelude.{ℕ, List, ◌++◌}
+use Rattle.std.specs.Prelude.{ℕ, List, ◌++◌, codes}
 use Rattle.ration.specs.declared.Ration.{Ration}
 use Rattle.ration.specs.declared.Ration.TheVariants as ration
 use Rattle.wire.specs.declared.Role.{Role}
@@ -10,8 +10,7 @@ use Rattle.state.specs.declared.Side.{Side}
 use Rattle.state.specs.declared.Side.TheVariants as side
 use Rattle.state.specs.declared.Sides.{Sides}
 use Rattle.state.specs.declared.Sides.TheVariants as sides
-use Rattle.laws.specs.Codes.{codes}
-use Rattle.text_line.specs.Line.{decimal}
+use Rattle.std.specs.Fmt.{decimal}
 
 abbrev pub role_text : Role → List ℕ
 role_text role.Client = codes " client"

@@ -1,11 +1,9 @@
 -- The words of the current state.
-use Rattle.std.specs.Prelude.{ℕ, Bool, true, false, List, [], ◌++◌}
+use Rattle.std.specs.Prelude.{ℕ, Bool, true, false, List, [], ◌++◌, Option, Some, None, codes}
 use Rattle.ration.specs.declared.Ration.{Ration}
 use Rattle.state.specs.declared.Connection.{Connection}
 use Rattle.state.specs.declared.Outcome.{Outcome}
 use Rattle.state.specs.declared.Outcome.TheVariants as outcome
-use Rattle.state.specs.declared.Ping.{Ping}
-use Rattle.state.specs.declared.Ping.TheVariants as ping
 use Rattle.state.specs.declared.Session.{Session}
 use Rattle.state.specs.declared.Side.{Side}
 use Rattle.state.specs.declared.Side.TheVariants as side
@@ -14,7 +12,6 @@ use Rattle.state.specs.declared.Sides.TheVariants as sides
 use Rattle.state.specs.declared.Stage.{Stage}
 use Rattle.state.specs.declared.Stage.TheVariants as stage
 use Rattle.text_state.specs.Parts.{role_text, sides_text, outcome_text, ration_text}
-use Rattle.laws.specs.Codes.{codes}
 use Rattle.text_line.specs.Line.{item_text, flag_text}
 
 -- ---- a connection
@@ -24,9 +21,9 @@ stage_text (stage.Fresh r) = role_text r ++ codes " fresh"
 stage_text stage.Started = codes " client started"
 stage_text (stage.Up r far) = role_text r ++ item_text " up " far
 
-abbrev pub ping_text : Ping → List ℕ
-ping_text ping.None = codes " ping none"
-ping_text (ping.Outstanding cookie) = item_text " ping " cookie
+abbrev pub ping_text : Option ℕ → List ℕ
+ping_text None = codes " ping none"
+ping_text (Some cookie) = item_text " ping " cookie
 
 abbrev pub connection_text : Connection → List ℕ
 connection_text c = codes "connection" ++ stage_text c.stage ++ flag_text " over" c.over ++ item_text " last " c.last ++ ping_text c.ping

@@ -1,33 +1,41 @@
-// The words of an answer, put behind the end of a line of text.
-ghost use Rattle.text_line.specs.Line.{line_text, added, LineIs};
-ghost use Rattle.text_state.specs.Answers.{taken_text, answer_text};
+// The words of an answer.
+ghost use Rattle.std.specs.Prelude.{Some};
+ghost use Rattle.text_state.specs.Answers.{answer_text};
 
+use refusal::Failure;
 use state::Answer;
-use text_line::Line;
-use text_message::{with_fault, with_message};
-use wire::Message;
+use std::fmt;
+use text_line::Flag;
+use text_message::{FailureText, MessageText};
 
-// The line with a message that was taken behind its end.
-fn taken(line: Line, m: Message, late: bool, used: usize) -> Line
-    ensures { LineIs result (added (line_text line) (taken_text m late used)) }
-{
-    with_message(line.text(b" ok "), m)
-        .flag(b" late", late)
-        .item(b" used ", used as u64)
+/// What a call answers in words, or why it does not; those of a header or a message tell how many bytes of the input it used.
+#[derive(Clone, Copy)]
+pub struct AnswerText {
+    pub answer: Result<Answer, Failure>,
+    pub used: usize,
 }
 
-// The line with what a call answers behind its end.
-pub fn answered(line: Line, answer: Answer, used: usize) -> Line
-    ensures { LineIs result (added (line_text line) (answer_text answer used)) }
-{
-    match answer {
-        Answer::Done => line.text(b" ok"),
-        Answer::Served(n) => line.item(b" ok id ", n as u64),
-        Answer::Header(far) => line
-            .item(b" ok header ", far as u64)
-            .item(b" used ", used as u64),
-        Answer::Message { message, late } => taken(line, message, late, used),
-        Answer::Refused(r) => line.item(b" refused ", r.number() as u64),
-        Answer::Violated(fault) => with_fault(line, fault),
+impl fmt::Display for AnswerText {
+    ghost output = { λ a. Some (answer_text a.answer a.used) };
+
+    fn fmt<W: fmt::Write>(&self, f: &mut fmt::Formatter<W>) -> fmt::Result {
+        let used = self.used;
+        match self.answer {
+            Ok(Answer::Done) => f.write_str(" ok"),
+            Ok(Answer::Served(n)) => write!(f, " ok id {n}"),
+            Ok(Answer::Header(far)) => write!(f, " ok header {far} used {used}"),
+            Ok(Answer::Message { message, late }) => {
+                let message = MessageText(message);
+                let late = Flag {
+                    name: " late",
+                    set: late,
+                };
+                write!(f, " ok {message}{late} used {used}")
+            }
+            Err(failure) => {
+                let failure = FailureText(failure);
+                write!(f, "{failure}")
+            }
+        }
     }
 }

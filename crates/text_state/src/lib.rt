@@ -5,5 +5,6 @@ mod answers;
 mod parts;
 mod states;
 
-pub use answers::answered;
-pub use states::{connection_line, is_shown, session_line};
+pub use answers::AnswerText;
+pub use parts::RationText;
+pub use states::{ConnectionText, SessionText, is_shown};

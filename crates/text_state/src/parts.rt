@@ -1,58 +1,74 @@
-// The words of the parts of a state, put behind the end of a line of text.
-ghost use Rattle.text_line.specs.Line.{line_text, added, LineIs};
+// The words of the parts of a state.
+ghost use Rattle.std.specs.Prelude.{◌≡◌, Some};
 ghost use Rattle.text_state.specs.Parts.{role_text, side_text, sides_text, outcome_text, ration_text};
 
 use ration::Ration;
 use state::{Outcome, Side, Sides};
-use text_line::Line;
+use std::fmt;
 use wire::Role;
 
-pub(crate) fn with_role(line: Line, role: Role) -> Line
-    ensures { LineIs result (added (line_text line) (role_text role)) }
+pub(crate) fn role_words(role: Role) -> &'static str
+    ensures { result.now ≡ role_text role }
 {
     match role {
-        Role::Client => line.text(b" client"),
-        Role::Server => line.text(b" server"),
+        Role::Client => " client",
+        Role::Server => " server",
     }
 }
 
-pub(crate) fn with_side(line: Line, side: Side) -> Line
-    ensures { LineIs result (added (line_text line) (side_text side)) }
+fn side_words(side: Side) -> &'static str
+    ensures { result.now ≡ side_text side }
 {
     match side {
-        Side::Open => line.text(b" open"),
-        Side::Finished => line.text(b" finished"),
-        Side::Ended => line.text(b" ended"),
+        Side::Open => " open",
+        Side::Finished => " finished",
+        Side::Ended => " ended",
     }
 }
 
-pub(crate) fn with_sides(line: Line, sides: Sides) -> Line
-    ensures { LineIs result (added (line_text line) (sides_text sides)) }
-{
-    match sides {
-        Sides::Idle => line.text(b" idle none"),
-        Sides::Opening(_) => line.text(b" opening none"),
-        Sides::Live(ours, theirs) => with_side(with_side(line, ours), theirs),
-    }
-}
-
-pub(crate) fn with_outcome(line: Line, outcome: Outcome) -> Line
-    ensures { LineIs result (added (line_text line) (outcome_text outcome)) }
+pub(crate) fn outcome_words(outcome: Outcome) -> &'static str
+    ensures { result.now ≡ outcome_text outcome }
 {
     match outcome {
-        Outcome::None => line.text(b" outcome none"),
-        Outcome::Running => line.text(b" outcome running"),
-        Outcome::Complete => line.text(b" outcome complete"),
-        Outcome::MayRetry => line.text(b" outcome retry"),
-        Outcome::MustNotRetry => line.text(b" outcome no-retry"),
+        Outcome::None => " outcome none",
+        Outcome::Running => " outcome running",
+        Outcome::Complete => " outcome complete",
+        Outcome::MayRetry => " outcome retry",
+        Outcome::MustNotRetry => " outcome no-retry",
     }
 }
 
-pub(crate) fn with_ration(line: Line, ration: Ration) -> Line
-    ensures { LineIs result (added (line_text line) (ration_text ration)) }
-{
-    match ration {
-        Ration::Finite(n) => line.number(n as u64),
-        Ration::Endless => line.text(b"endless"),
+/// Both sides of a session in words.
+#[derive(Clone, Copy)]
+pub(crate) struct SidesText(pub(crate) Sides);
+
+impl fmt::Display for SidesText {
+    ghost output = { λ sides. Some (sides_text sides.0) };
+
+    fn fmt<W: fmt::Write>(&self, f: &mut fmt::Formatter<W>) -> fmt::Result {
+        match self.0 {
+            Sides::Idle => f.write_str(" idle none"),
+            Sides::Opening(_) => f.write_str(" opening none"),
+            Sides::Live(ours, theirs) => {
+                let ours = side_words(ours);
+                let theirs = side_words(theirs);
+                write!(f, "{ours}{theirs}")
+            }
+        }
+    }
+}
+
+/// A ration in words: how many bytes are left, or that it is endless.
+#[derive(Clone, Copy)]
+pub struct RationText(pub Ration);
+
+impl fmt::Display for RationText {
+    ghost output = { λ ration. Some (ration_text ration.0) };
+
+    fn fmt<W: fmt::Write>(&self, f: &mut fmt::Formatter<W>) -> fmt::Result {
+        match self.0 {
+            Ration::Finite(n) => write!(f, "{n}"),
+            Ration::Endless => f.write_str("endless"),
+        }
     }
 }

@@ -1,4 +1,5 @@
 -- What holds of every message that the reader gives, whatever its input is: its fields fit, and its sender may send it.
+use Rattle.std.specs.Prelude.{Option, Some, None}
 use mathlib.Core.Path.{◌≡◌, refl, sym, ap, ◌∙◌, subst}
 use mathlib.Core.Bool.{Bool, true, false, ◌||◌}
 use mathlib.Core.List.{List}
@@ -13,8 +14,6 @@ use Rattle.laws.proofs.Results.{ok_same, refused_not_ok, violation_not_ok}
 use Rattle.wire.specs.declared.Role.{Role}
 use Rattle.wire.specs.declared.Kind.{Kind}
 use Rattle.wire.specs.declared.Kind.TheVariants as kind
-use Rattle.wire.specs.declared.Named.{Named}
-use Rattle.wire.specs.declared.Named.TheVariants.{Known, Unknown}
 use Rattle.wire.specs.declared.Message.{Message}
 use Rattle.wire.specs.Pattern.{x, -, bits, with_bits}
 use Rattle.wire.specs.FirstByte.{kind_of}
@@ -112,9 +111,9 @@ header_sent from h m q = go (kind_of (get_or h 0 0)) q
         }
     by_kind k false p = absurd (violation_not_ok p)
 
-    go : (n : Named) → typed from h n ≡ ok m → Sent from m
-    go (Known k) p = by_kind k (fixed (layout k) h) p
-    go Unknown p = absurd (violation_not_ok p)
+    go : (n : Option Kind) → typed from h n ≡ ok m → Sent from m
+    go (Some k) p = by_kind k (fixed (layout k) h) p
+    go None p = absurd (violation_not_ok p)
 
 pub message_sent : (from : Role) (s : List ℕ) (m : Message) → read_message from s ≡ ok m → Sent from m
 unfolding read_message pick
@@ -164,14 +163,14 @@ either v p q true hp hq = hp
 either v p q false hp hq = hq
 
 module _ (v : ℕ → Bool) (h20 : v 20 ≡ true) (h21 : v 21 ≡ true) (h23 : v 23 ≡ true) (h24 : v 24 ≡ true) (from : Role) where
-  typed_only : (h : List ℕ) (n : Named) → Only v (typed from h n)
+  typed_only : (h : List ℕ) (n : Option Kind) → Only v (typed from h n)
   unfolding typed allowed
-  typed_only h (Known k) =
+  typed_only h (Some k) =
       let m = message k h in
       let flags = either v (ok m) (violation (fault 24 0)) (flags_allowed from m) tt h24 in
       let sender = either v (pick (flags_allowed from m) (ok m) (violation (fault 24 0))) (violation (fault 23 0)) (may_send from k) flags h23 in
       either v (allowed from k m) (violation (fault 21 (first_wrong (layout k) h))) (fixed (layout k) h) sender h21
-  typed_only h Unknown = h20
+  typed_only h None = h20
 
   parsed_only : (h : List ℕ) → Only v (parse_header from h)
   unfolding parse_header

@@ -1,5 +1,6 @@
 -- Header bytes and messages are inverse to each other, from the tables: the header of a message is read as that message,
 -- and a message that is read has the header that it is read from.
+use Rattle.std.specs.Prelude.{Option, Some, None}
 use mathlib.Core.Path.{◌≡◌, refl, sym, ap, ◌∙◌, subst}
 use mathlib.Core.Bool.{Bool, true, false, ◌&&◌}
 use mathlib.Core.List.{[], ◌∷◌}
@@ -17,8 +18,6 @@ use Rattle.laws.proofs.Words.{joined}
 use Rattle.wire.specs.declared.Role.{Role}
 use Rattle.wire.specs.declared.Kind.{Kind}
 use Rattle.wire.specs.declared.Kind.TheVariants as kind
-use Rattle.wire.specs.declared.Named.{Named}
-use Rattle.wire.specs.declared.Named.TheVariants.{Known, Unknown}
 use Rattle.wire.specs.declared.Message.{Message}
 use Rattle.wire.specs.declared.Message.TheVariants.{NoOperation, Shutdown, Ping, PingAck, Error, IncrementRation, Abort, Close, Acknowledgment, Data}
 use Rattle.wire.specs.FirstByte.{kind_of}
@@ -54,7 +53,7 @@ unfolding shift_test kind_of pick
 shift_known t = below shift_test 8 tt (t % 8) (mod-lt t (omega arith))
 
 flags_back : (o c e k : Bool) (i n : ℕ)
-    → (kind_of (first_byte (Data o c e k i n)) ≡ Known kind.Data) × (decoded kind.Data (first_byte (Data o c e k i n)) i n ≡ Data o c e k (i % 128) n)
+    → (kind_of (first_byte (Data o c e k i n)) ≡ Some kind.Data) × (decoded kind.Data (first_byte (Data o c e k i n)) i n ≡ Data o c e k (i % 128) n)
 unfolding kind_of pick
 flags_back true true true true i n = (refl, refl)
 flags_back true true true false i n = (refl, refl)
@@ -74,12 +73,12 @@ flags_back false false false true i n = (refl, refl)
 flags_back false false false false i n = (refl, refl)
 
 partial_back : (p : Bool) (i n : ℕ)
-    → (kind_of (first_byte (Abort p i n)) ≡ Known kind.Abort) × (decoded kind.Abort (first_byte (Abort p i n)) i n ≡ Abort p (i % 128) n)
+    → (kind_of (first_byte (Abort p i n)) ≡ Some kind.Abort) × (decoded kind.Abort (first_byte (Abort p i n)) i n ≡ Abort p (i % 128) n)
 unfolding kind_of pick
 partial_back true i n = (refl, refl)
 partial_back false i n = (refl, refl)
 
-first_names : (m : Message) → kind_of (first_byte m) ≡ Known (kind_of_message m)
+first_names : (m : Message) → kind_of (first_byte m) ≡ Some (kind_of_message m)
 unfolding kind_of pick
 first_names (NoOperation n) = refl
 first_names (Shutdown n) = refl
@@ -87,7 +86,7 @@ first_names (Ping n) = refl
 first_names (PingAck n) = refl
 first_names (Error n) = refl
 first_names (IncrementRation t i n) =
-    sym (same (Known kind.IncrementRation) (kind_of (0x10 + t % 8 * 2)) (T-first (eqb (code kind.IncrementRation) (code_of (kind_of (0x10 + t % 8 * 2)))) (eqb ((0x10 + t % 8 * 2) / 2 % 8) (t % 8)) (shift_known t)))
+    sym (same (Some kind.IncrementRation) (kind_of (0x10 + t % 8 * 2)) (T-first (eqb (code kind.IncrementRation) (code_of (kind_of (0x10 + t % 8 * 2)))) (eqb ((0x10 + t % 8 * 2) / 2 % 8) (t % 8)) (shift_known t)))
 first_names (Abort p i n) = (partial_back p i n).0
 first_names (Close i) = refl
 first_names (Acknowledgment i) = refl
@@ -139,9 +138,9 @@ header_reads from m s i n p q =
 
 -- ---- a message that is read has the header that it is read from
 
-abbrev first_back : Named → ℕ → Bool
-first_back (Known k) a = eqb (first_byte (decoded k a 0 0)) a
-first_back Unknown a = true
+abbrev first_back : Option Kind → ℕ → Bool
+first_back (Some k) a = eqb (first_byte (decoded k a 0 0)) a
+first_back None a = true
 
 first_alone : (k : Kind) (a b n : ℕ) → first_byte (decoded k a b n) ≡ first_byte (decoded k a 0 0)
 first_alone kind.NoOperation a b n = refl
@@ -155,12 +154,12 @@ first_alone kind.Close a b n = refl
 first_alone kind.Acknowledgment a b n = refl
 first_alone kind.Data a b n = refl
 
-first_decoded : (a : ℕ) → a < 256 → (k : Kind) (b n : ℕ) → kind_of a ≡ Known k → first_byte (decoded k a b n) ≡ a
+first_decoded : (a : ℕ) → a < 256 → (k : Kind) (b n : ℕ) → kind_of a ≡ Some k → first_byte (decoded k a b n) ≡ a
 unfolding kind_of pick
 first_decoded a h k b n e =
     first_alone k a b n
     ∙ eqb→eq (first_byte (decoded k a 0 0)) a
-    (subst (λ (m : Named). T (first_back m a)) e (below (λ a. first_back (kind_of a) a) 256 tt a h))
+    (subst (λ (m : Option Kind). T (first_back m a)) e (below (λ a. first_back (kind_of a) a) 256 tt a h))
 
 -- what a message has that is decoded from a header with the fixed bits of its type
 pub record Decoded (k : Kind) (b n : ℕ) (m : Message) : Type 0 where
@@ -227,7 +226,7 @@ pub record Parsed (from : Role) (a b n : ℕ) (m : Message) : Type 0 where
   pub flags : flags_allowed from m ≡ true
 
 module _ (from : Role) (a b c d : ℕ) (ha : a < 256) (hb : b < 256) (hc : c < 256) (hd : d < 256) (m : Message) where
-  parsed_decoded : (k : Kind) → kind_of a ≡ Known k → clear k b c d ≡ true → may_send from k ≡ true → decoded k a b (c * 256 + d) ≡ m → flags_allowed from m ≡ true → Parsed from a b (c * 256 + d) m
+  parsed_decoded : (k : Kind) → kind_of a ≡ Some k → clear k b c d ≡ true → may_send from k ≡ true → decoded k a b (c * 256 + d) ≡ m → flags_allowed from m ≡ true → Parsed from a b (c * 256 + d) m
   parsed_decoded k e cl s p f =
       let h = subst (λ (l : Message). Decoded k b (c * 256 + d) l) p (decoded_has k a b c d cl) in
       record {
@@ -240,7 +239,7 @@ module _ (from : Role) (a b c d : ℕ) (ha : a < 256) (hb : b < 256) (hc : c < 2
         flags = f;
       }
 
-  known_parsed : (k : Kind) → kind_of a ≡ Known k → typed from (a ∷ b ∷ c ∷ d ∷ []) (Known k) ≡ ok m → Parsed from a b (c * 256 + d) m
+  known_parsed : (k : Kind) → kind_of a ≡ Some k → typed from (a ∷ b ∷ c ∷ d ∷ []) (Some k) ≡ ok m → Parsed from a b (c * 256 + d) m
   unfolding typed pick
   known_parsed k e q = go (fixed (layout k) (a ∷ b ∷ c ∷ d ∷ [])) refl q
     where
@@ -258,6 +257,6 @@ module _ (from : Role) (a b c d : ℕ) (ha : a < 256) (hb : b < 256) (hc : c < 2
   unfolding parse_header typed
   header_parsed q = go (kind_of a) refl q
     where
-      go : (n : Named) → kind_of a ≡ n → typed from (a ∷ b ∷ c ∷ d ∷ []) n ≡ ok m → Parsed from a b (c * 256 + d) m
-      go (Known k) e p = known_parsed k e p
-      go Unknown e p = absurd (violation_not_ok p)
+      go : (n : Option Kind) → kind_of a ≡ n → typed from (a ∷ b ∷ c ∷ d ∷ []) n ≡ ok m → Parsed from a b (c * 256 + d) m
+      go (Some k) e p = known_parsed k e p
+      go None e p = absurd (violation_not_ok p)

@@ -1,5 +1,6 @@
 -- What the readers find is exactly what is wrong with a header: the byte at the place of a 21 or 22 is wrong by the layout, and every byte
 -- before it is as the layout fixes it. From the order of the rows, which is that of their bytes.
+use Rattle.std.specs.Prelude.{Option, Some, None}
 use mathlib.Core.Path.{◌≡◌, refl, sym, ap, ◌∙◌, subst}
 use mathlib.Core.Bool.{Bool, true, false, ◌&&◌}
 use mathlib.Core.List.{List, [], ◌∷◌}
@@ -16,8 +17,6 @@ use Rattle.laws.proofs.Results.{violation_same, violation_not_ok, violation_not_
 use Rattle.wire.specs.declared.Role.{Role}
 use Rattle.wire.specs.declared.Kind.{Kind}
 use Rattle.wire.specs.declared.Kind.TheVariants as kind
-use Rattle.wire.specs.declared.Named.{Named}
-use Rattle.wire.specs.declared.Named.TheVariants.{Known, Unknown}
 use Rattle.wire.specs.declared.Message.{Message}
 use Rattle.wire.specs.Pattern.{O, I, bits, fits}
 use Rattle.wire.specs.FirstByte.{kind_of}
@@ -131,7 +130,7 @@ module _ (h : List ℕ) where
 -- ---- what the readers find
 
 module _ (from : Role) (h : List ℕ) where
-  by_flags : (k : Kind) → kind_of (get_or h 0 0) ≡ Known k → fixed (layout k) h ≡ true → (s g : Bool) → may_send from k ≡ s
+  by_flags : (k : Kind) → kind_of (get_or h 0 0) ≡ Some k → fixed (layout k) h ≡ true → (s g : Bool) → may_send from k ≡ s
       → flags_allowed from (message k h) ≡ g → (f : Fault)
       → pick s (pick g (ok (message k h)) (violation (fault 24 0))) (violation (fault 23 0)) ≡ violation f → MessageFault from h f
   unfolding pick
@@ -139,7 +138,7 @@ module _ (from : Role) (h : List ℕ) where
   by_flags k e x true false s g f q = subst (λ (z : Fault). MessageFault from h z) (violation_same q) (wrong_flags k e x s g)
   by_flags k e x false g s t f q = subst (λ (z : Fault). MessageFault from h z) (violation_same q) (wrong_sender k e x s)
 
-  by_bits : (k : Kind) → kind_of (get_or h 0 0) ≡ Known k → (b : Bool) → fixed (layout k) h ≡ b → (f : Fault)
+  by_bits : (k : Kind) → kind_of (get_or h 0 0) ≡ Some k → (b : Bool) → fixed (layout k) h ≡ b → (f : Fault)
       → pick b (allowed from k (message k h)) (violation (fault 21 (first_wrong (layout k) h))) ≡ violation f → MessageFault from h f
   unfolding pick allowed
   by_bits k e true x f q = by_flags k e x (may_send from k) (flags_allowed from (message k h)) refl refl f q
@@ -147,17 +146,17 @@ module _ (from : Role) (h : List ℕ) where
       subst (λ (z : Fault). MessageFault from h z) (violation_same q)
       (wrong_bit k (first_wrong (layout k) h) e (first_wrong_lem h 0 (layout k) (layout_ordered k) x))
 
-  by_type : (n : Named) → kind_of (get_or h 0 0) ≡ n → (f : Fault) → typed from h n ≡ violation f → MessageFault from h f
+  by_type : (n : Option Kind) → kind_of (get_or h 0 0) ≡ n → (f : Fault) → typed from h n ≡ violation f → MessageFault from h f
   unfolding typed
-  by_type (Known k) e f q = by_bits k e (fixed (layout k) h) refl f q
-  by_type Unknown e f q = subst (λ (z : Fault). MessageFault from h z) (violation_same q) (no_type e)
+  by_type (Some k) e f q = by_bits k e (fixed (layout k) h) refl f q
+  by_type None e f q = subst (λ (z : Fault). MessageFault from h z) (violation_same q) (no_type e)
 
   -- the reader of the four header bytes finds what is wrong with them
   pub parsed_fault : (f : Fault) → parse_header from h ≡ violation f → MessageFault from h f
   unfolding parse_header
   parsed_fault f q = by_type (kind_of (get_or h 0 0)) refl f q
 
-  named : {n : Named} → kind_of (get_or h 0 0) ≡ n → parse_header from h ≡ typed from h n
+  named : {n : Option Kind} → kind_of (get_or h 0 0) ≡ n → parse_header from h ≡ typed from h n
   unfolding parse_header
   named e = ap (typed from h) e
 
@@ -270,10 +269,10 @@ behind_reserved kind.Data = refl
 
 -- 21 is at byte 1; of a Close or an Acknowledgment at byte 1 if that is above 127, else at byte 2 if that is not 0, else at byte 3
 pub place_21_is : (from : Role) (a b c d p : ℕ) → a < 256 → b < 256 → c < 256 → d < 256 → parse_header from (a ∷ b ∷ c ∷ d ∷ []) ≡ violation (fault 21 p)
-    → (k : Kind) × (kind_of a ≡ Known k) × (wrong_place k b c ≡ p)
+    → (k : Kind) × (kind_of a ≡ Some k) × (wrong_place k b c ≡ p)
 place_21_is from a b c d p ha hb hc hd q = of_21 (fault 21 p) (parsed_fault from (a ∷ b ∷ c ∷ d ∷ []) (fault 21 p) q) refl
   where
-    of_21 : (f : Fault) → MessageFault from (a ∷ b ∷ c ∷ d ∷ []) f → f.number ≡ 21 → (k : Kind) × (kind_of a ≡ Known k) × (wrong_place k b c ≡ f.place)
+    of_21 : (f : Fault) → MessageFault from (a ∷ b ∷ c ∷ d ∷ []) f → f.number ≡ 21 → (k : Kind) × (kind_of a ≡ Some k) × (wrong_place k b c ≡ f.place)
     of_21 f (no_type e) n = absurd (omega arith)
     of_21 f (wrong_bit k place e w) n =
         let h = a ∷ b ∷ c ∷ d ∷ [] in

@@ -1,4 +1,5 @@
 -- The reader's definitions, one law for each way through their checks; callers cite these.
+use Rattle.std.specs.Prelude.{Option, Some, None}
 use mathlib.Core.Path.{◌≡◌, ap, sym, ◌∙◌}
 use mathlib.Core.Bool.{true, false}
 use mathlib.Core.List.{List, [], ◌∷◌}
@@ -11,8 +12,6 @@ use Rattle.laws.proofs.Pick.{yes, no}
 use Rattle.laws.proofs.Lists.{elements, take_elements}
 use Rattle.wire.specs.declared.Role.{Role}
 use Rattle.wire.specs.declared.Kind.{Kind}
-use Rattle.wire.specs.declared.Named.{Named}
-use Rattle.wire.specs.declared.Named.TheVariants.{Known, Unknown}
 use Rattle.wire.specs.declared.Message.{Message}
 use Rattle.wire.specs.FirstByte.{kind_of}
 use Rattle.wire.specs.Layout.{layout, fixed, first_wrong, digits, initial_ration, message}
@@ -36,21 +35,21 @@ allowed_sender from k m p = sym (no _ _ _ p)
 -- ---- the four header bytes
 
 module _ (from : Role) (a b c d : ℕ) where
-  named : {n : Named} → kind_of a ≡ n → typed from (a ∷ b ∷ c ∷ d ∷ []) n ≡ parse_header from (a ∷ b ∷ c ∷ d ∷ [])
+  named : {n : Option Kind} → kind_of a ≡ n → typed from (a ∷ b ∷ c ∷ d ∷ []) n ≡ parse_header from (a ∷ b ∷ c ∷ d ∷ [])
   unfolding parse_header
   named e = ap (typed from (a ∷ b ∷ c ∷ d ∷ [])) (sym e)
 
-  pub header_clear : {k : Kind} {m : Message} {r : Result Message} → kind_of a ≡ Known k → fixed (layout k) (a ∷ b ∷ c ∷ d ∷ []) ≡ true
+  pub header_clear : {k : Kind} {m : Message} {r : Result Message} → kind_of a ≡ Some k → fixed (layout k) (a ∷ b ∷ c ∷ d ∷ []) ≡ true
       → m ≡ message k (a ∷ b ∷ c ∷ d ∷ []) → r ≡ allowed from k m → r ≡ parse_header from (a ∷ b ∷ c ∷ d ∷ [])
   unfolding typed
   header_clear {k} e f p q = q ∙ ap (allowed from k) p ∙ sym (yes _ _ _ f) ∙ named e
 
-  pub header_reserved : {k : Kind} {place : ℕ} → kind_of a ≡ Known k → fixed (layout k) (a ∷ b ∷ c ∷ d ∷ []) ≡ false
+  pub header_reserved : {k : Kind} {place : ℕ} → kind_of a ≡ Some k → fixed (layout k) (a ∷ b ∷ c ∷ d ∷ []) ≡ false
       → place ≡ first_wrong (layout k) (a ∷ b ∷ c ∷ d ∷ []) → violation (fault 21 place) ≡ parse_header from (a ∷ b ∷ c ∷ d ∷ [])
   unfolding typed
   header_reserved e f q = ap (λ (p : ℕ). violation (fault 21 p)) q ∙ sym (no _ _ _ f) ∙ named e
 
-  pub header_unknown : kind_of a ≡ Unknown → violation (fault 20 0) ≡ parse_header from (a ∷ b ∷ c ∷ d ∷ [])
+  pub header_unknown : kind_of a ≡ None → violation (fault 20 0) ≡ parse_header from (a ∷ b ∷ c ∷ d ∷ [])
   unfolding typed
   header_unknown e = named e
 

@@ -1,4 +1,5 @@
 -- What the layout tables say of four header bytes, in sums and tests of each byte, from tests computed over the 256 bytes.
+use Rattle.std.specs.Prelude.{Option, Some, None}
 use mathlib.Core.Path.{◌≡◌, refl, ap, sym, ◌∙◌, subst}
 use mathlib.Core.Bool.{Bool, true, false, ◌&&◌, beq, and-true, and_assoc, true≢false}
 use mathlib.Core.List.{List, [], ◌∷◌, ◌++◌}
@@ -8,8 +9,6 @@ use lib.Dec.{T, eqb, ltb}
 use lib.ListN.{get_or, take, drop, take-append-drop}
 use Rattle.wire.specs.declared.Kind.{Kind}
 use Rattle.wire.specs.declared.Kind.TheVariants as kind
-use Rattle.wire.specs.declared.Named.{Named}
-use Rattle.wire.specs.declared.Named.TheVariants.{Known, Unknown}
 use Rattle.wire.specs.declared.Message.{Message}
 use Rattle.wire.specs.declared.Message.TheVariants.{NoOperation, Shutdown, Ping, PingAck, Error, IncrementRation, Abort, Close, Acknowledgment, Data}
 use Rattle.wire.specs.Pattern.{Bit, O, I, x, -, bits, fits, with_bits}
@@ -85,15 +84,15 @@ fixed_append [] qs h = refl
 fixed_append (r ∷ rs) qs h = ap (λ (b : Bool). fits r.pattern 128 (get_or h r.offset 0) && b) (fixed_append rs qs h)
     ∙ sym (and_assoc (fits r.pattern 128 (get_or h r.offset 0)) (fixed rs h) (fixed qs h))
 
-abbrev first_fixed : Named → ℕ → Bool
-first_fixed (Known k) a = fixed (take (first_rows k) (layout k)) (a ∷ [])
-first_fixed Unknown a = true
+abbrev first_fixed : Option Kind → ℕ → Bool
+first_fixed (Some k) a = fixed (take (first_rows k) (layout k)) (a ∷ [])
+first_fixed None a = true
 
 -- a byte that names a type is as that type's layout fixes its first byte
-first_fixed_lem : (a : ℕ) → a < 256 → (k : Kind) → kind_of a ≡ Known k → fixed (take (first_rows k) (layout k)) (a ∷ []) ≡ true
+first_fixed_lem : (a : ℕ) → a < 256 → (k : Kind) → kind_of a ≡ Some k → fixed (take (first_rows k) (layout k)) (a ∷ []) ≡ true
 unfolding kind_of pick
 first_fixed_lem a h k e =
-    T_true _ (subst (λ (n : Named). T (first_fixed n a)) e (below (λ a. first_fixed (kind_of a) a) 256 tt a h))
+    T_true _ (subst (λ (n : Option Kind). T (first_fixed n a)) e (below (λ a. first_fixed (kind_of a) a) 256 tt a h))
 
 module _ (a b c d : ℕ) where
   first_only : (k : Kind) → fixed (take (first_rows k) (layout k)) (a ∷ b ∷ c ∷ d ∷ []) ≡ fixed (take (first_rows k) (layout k)) (a ∷ [])
@@ -137,7 +136,7 @@ module _ (a b c d : ℕ) (hb : b < 256) (hc : c < 256) (hd : d < 256) where
   rest_fixed kind.Acknowledgment = bare
   rest_fixed kind.Data = and-true _ ∙ top_bit b hb
 
-  pub fixed_clear : a < 256 → (k j : Kind) → k ≡ j → kind_of a ≡ Known k → clear j b c d ≡ fixed (layout k) (a ∷ b ∷ c ∷ d ∷ [])
+  pub fixed_clear : a < 256 → (k j : Kind) → k ≡ j → kind_of a ≡ Some k → clear j b c d ≡ fixed (layout k) (a ∷ b ∷ c ∷ d ∷ [])
   fixed_clear ha k j p e =
       ap (λ (i : Kind). clear i b c d) (sym p) ∙ sym (rest_fixed k)
       ∙ sym
@@ -193,7 +192,7 @@ module _ (a b c d : ℕ) (hb : b < 256) (hc : c < 256) (hd : d < 256) where
   rest_wrong kind.Acknowledgment e = bare_place_lem (top_bit b hb) (zero_byte c hc) (zero_byte d hd) e
   rest_wrong kind.Data e = no _ _ _ (top_bit b hb ∙ e)
 
-  pub place_is : a < 256 → (k : Kind) → kind_of a ≡ Known k → fixed (layout k) (a ∷ b ∷ c ∷ d ∷ []) ≡ false
+  pub place_is : a < 256 → (k : Kind) → kind_of a ≡ Some k → fixed (layout k) (a ∷ b ∷ c ∷ d ∷ []) ≡ false
       → wrong_place k b c ≡ first_wrong (layout k) (a ∷ b ∷ c ∷ d ∷ [])
   place_is ha k e f =
       let h = a ∷ b ∷ c ∷ d ∷ [] in

@@ -1,11 +1,9 @@
 -- The published table of first bytes: each row is a bit pattern, and the message type that it names.
-use Rattle.std.specs.Prelude.{ℕ, List, [], ◌∷◌}
+use Rattle.std.specs.Prelude.{ℕ, List, [], ◌∷◌, Option, Some, None}
 use Rattle.laws.specs.Pick.{pick}
 use Rattle.wire.specs.Pattern.{Bit, O, I, x, bits, fits}
 use Rattle.wire.specs.declared.Kind.{Kind}
 use Rattle.wire.specs.declared.Kind.TheVariants.{NoOperation, Shutdown, Ping, PingAck, Error, IncrementRation, Abort, Close, Acknowledgment, Data}
-use Rattle.wire.specs.declared.Named.{Named}
-use Rattle.wire.specs.declared.Named.TheVariants.{Known, Unknown}
 
 pub record TypeRow : Type 0 where
   pub pattern : List Bit
@@ -29,9 +27,9 @@ type_table =
     ∷ []
 
 -- the type of the row that the byte fits
-abbrev pub lookup : List TypeRow → ℕ → Named
-lookup [] byte = Unknown
-lookup (r ∷ rs) byte = pick (fits r.pattern 128 byte) (Known r.kind) (lookup rs byte)
+abbrev pub lookup : List TypeRow → ℕ → Option Kind
+lookup [] byte = None
+lookup (r ∷ rs) byte = pick (fits r.pattern 128 byte) (Some r.kind) (lookup rs byte)
 
-unfoldable pub kind_of : ℕ → Named
+unfoldable pub kind_of : ℕ → Option Kind
 kind_of byte = lookup type_table byte

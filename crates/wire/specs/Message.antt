@@ -1,13 +1,11 @@
 -- Which messages a sender may send, which message is in some bytes, and which bytes a message has.
-use Rattle.std.specs.Prelude.{ℕ, ◌+◌, ◌*◌, ◌/◌, ◌%◌, ◌^◌, List, [], ◌∷◌, ◌++◌, Bool, true, false, not, ◌&&◌, ◌||◌, length, get_or, take, drop, eqb, ltb, leb}
+use Rattle.std.specs.Prelude.{ℕ, ◌+◌, ◌*◌, ◌/◌, ◌%◌, ◌^◌, List, [], ◌∷◌, ◌++◌, Bool, true, false, not, ◌&&◌, ◌||◌, length, get_or, take, drop, eqb, ltb, leb, Option, Some, None}
 use Rattle.laws.specs.Pick.{pick}
 use Rattle.laws.specs.Result.{fault, Result, ok, refused, violation}
 use Rattle.wire.specs.declared.Role.{Role}
 use Rattle.wire.specs.declared.Role.TheVariants.{Client, Server}
 use Rattle.wire.specs.declared.Kind.{Kind}
 use Rattle.wire.specs.declared.Kind.TheVariants as kind
-use Rattle.wire.specs.declared.Named.{Named}
-use Rattle.wire.specs.declared.Named.TheVariants.{Known, Unknown}
 use Rattle.wire.specs.declared.Message.{Message}
 use Rattle.wire.specs.declared.Message.TheVariants.{NoOperation, Shutdown, Ping, PingAck, Error, IncrementRation, Abort, Close, Acknowledgment, Data}
 use Rattle.wire.specs.FirstByte.{kind_of}
@@ -61,10 +59,10 @@ unfoldable pub allowed : Role → Kind → Message → Result Message
 allowed from k m = pick (may_send from k) (pick (flags_allowed from m) (ok m) (violation (fault 24 0))) (violation (fault 23 0))
 
 -- 20 for a first byte of no type, then 21 for a bit that is not as the layout fixes it, at the first byte with such a bit
-unfoldable pub typed : Role → List ℕ → Named → Result Message
-typed from header (Known k) =
+unfoldable pub typed : Role → List ℕ → Option Kind → Result Message
+typed from header (Some k) =
     pick (fixed (layout k) header) (allowed from k (message k header)) (violation (fault 21 (first_wrong (layout k) header)))
-typed from header Unknown = violation (fault 20 0)
+typed from header None = violation (fault 20 0)
 
 -- the message of exactly four header bytes
 unfoldable pub parse_header : Role → List ℕ → Result Message

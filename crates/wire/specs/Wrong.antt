@@ -1,10 +1,9 @@
 -- What a violation that a reader finds says of the header: which of its bytes is wrong by the published tables, and what each number stands
 -- for.
-use Rattle.std.specs.Prelude.{ℕ, ◌<◌, ◌≡◌, Bool, true, false, ◌&&◌, ◌||◌, List, [], ◌∷◌, eqb, ltb, get_or}
+use Rattle.std.specs.Prelude.{ℕ, ◌<◌, ◌≡◌, Bool, true, false, ◌&&◌, ◌||◌, List, [], ◌∷◌, eqb, ltb, get_or, Some, None}
 use Rattle.laws.specs.Result.{Fault, fault}
 use Rattle.wire.specs.declared.Role.{Role}
 use Rattle.wire.specs.declared.Kind.{Kind}
-use Rattle.wire.specs.declared.Named.TheVariants.{Known, Unknown}
 use Rattle.wire.specs.Pattern.{Bit, O, I, x, -, fits}
 use Rattle.wire.specs.FirstByte.{kind_of}
 use Rattle.wire.specs.Layout.{reserved, LayoutRow, layout, fixed, has_item, message}
@@ -37,12 +36,12 @@ reserved_behind (r ∷ rs) = (eqb r.offset 0 || has_item reserved (r ∷ []) || 
 
 -- what is wrong with the four header bytes of a message, with the number and the place that say so
 pub data MessageFault (from : Role) (header : List ℕ) : Fault → Type 0 where
-  no_type : kind_of (get_or header 0 0) ≡ Unknown → MessageFault from header (fault 20 0)
-  wrong_bit : (k : Kind) (place : ℕ) → kind_of (get_or header 0 0) ≡ Known k → FirstWrongAt (layout k) header place
+  no_type : kind_of (get_or header 0 0) ≡ None → MessageFault from header (fault 20 0)
+  wrong_bit : (k : Kind) (place : ℕ) → kind_of (get_or header 0 0) ≡ Some k → FirstWrongAt (layout k) header place
       → MessageFault from header (fault 21 place)
-  wrong_sender : (k : Kind) → kind_of (get_or header 0 0) ≡ Known k → fixed (layout k) header ≡ true → may_send from k ≡ false
+  wrong_sender : (k : Kind) → kind_of (get_or header 0 0) ≡ Some k → fixed (layout k) header ≡ true → may_send from k ≡ false
       → MessageFault from header (fault 23 0)
-  wrong_flags : (k : Kind) → kind_of (get_or header 0 0) ≡ Known k → fixed (layout k) header ≡ true → may_send from k ≡ true
+  wrong_flags : (k : Kind) → kind_of (get_or header 0 0) ≡ Some k → fixed (layout k) header ≡ true → may_send from k ≡ true
       → flags_allowed from (message k header) ≡ false → MessageFault from header (fault 24 0)
 
 -- what is wrong with the eight bytes of a connection header

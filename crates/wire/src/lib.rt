@@ -2,14 +2,14 @@
 #![tactic(auto)]
 
 // An end of the connection.
-#[derive(Clone, Copy)]
+#[derive(Clone, Copy, Debug, PartialEq, Eq)]
 pub enum Role {
     Client,
     Server,
 }
 
 // A type of message.
-#[derive(Clone, Copy)]
+#[derive(Clone, Copy, Debug, PartialEq, Eq)]
 pub enum Kind {
     NoOperation,
     Shutdown,
@@ -23,15 +23,8 @@ pub enum Kind {
     Data,
 }
 
-// What a first byte says about the type.
-#[derive(Clone, Copy)]
-pub enum Named {
-    Known(Kind),
-    Unknown,
-}
-
 // A message with every item except its data or detail, which are the caller's bytes.
-#[derive(Clone, Copy)]
+#[derive(Clone, Copy, Debug, PartialEq, Eq)]
 pub enum Message {
     NoOperation {
         length: u16,

@@ -1,90 +1,69 @@
 // Numbers through the ration.
-use crate::show;
-use ration::{Grown, Ration, Spent};
+use ration::Ration;
 use std::io;
-
-// A name and a ration.
-fn amount(rt: &impl Print, name: &[u8], r: Ration) -> io::Result<()> {
-    match r {
-        Ration::Finite(n) => show::item(rt, name, n as u64),
-        Ration::Endless => {
-            show::text(rt, name)?;
-            show::text(rt, b"endless")
-        }
-    }
-}
+use text_state::RationText;
 
 fn start(rt: &impl Print, number: u16) -> io::Result<()> {
-    show::item(rt, b"header number ", number as u64)?;
-    amount(rt, b" starts ", Ration::from_header(number))?;
-    show::end(rt)
+    let ration = Ration::from_header(number);
+    println!(rt; "header number {number} starts {}", RationText(ration))
 }
 
-// Prints a ration, and a number that is applied to it.
-fn asked(rt: &impl Print, r: Ration, name: &[u8], n: u32) -> io::Result<()> {
-    amount(rt, b"ration ", r)?;
-    show::item(rt, name, n as u64)
-}
-
-fn spend(rt: &impl Print, r: Ration, n: u32) -> io::Result<()> {
-    asked(rt, r, b" spend ", n)?;
-    match r.spend(n) {
-        Spent::Left(left) => amount(rt, b": left ", left)?,
-        Spent::NotEnough => show::text(rt, b": not enough")?,
-    }
-    show::end(rt)
-}
-
-fn grown(rt: &impl Print, answer: Grown) -> io::Result<()> {
-    match answer {
-        Grown::To(more) => amount(rt, b": now ", more),
-        Grown::PastLargest => show::text(rt, b": past the largest"),
+fn spend(rt: &impl Print, ration: Ration, n: u32) -> io::Result<()> {
+    print!(rt; "ration {} spend {n}: ", RationText(ration))?;
+    match ration.spend(n) {
+        Some(left) => println!(rt; "left {}", RationText(left)),
+        None => println!(rt; "not enough"),
     }
 }
 
 // Grows a ration by a shifted increment.
-fn grow(rt: &impl Print, r: Ration, shift: u8, increment: u16) -> io::Result<()> {
+fn grow(rt: &impl Print, ration: Ration, shift: u8, increment: u16) -> io::Result<()> {
     let n = wire_fields::effective_increment(shift, increment);
-    asked(rt, r, b" grow ", n)?;
-    grown(rt, r.grow(n))?;
-    show::end(rt)
+    print!(rt; "ration {} grow {n}: ", RationText(ration))?;
+    match ration.grow(n) {
+        Some(more) => println!(rt; "now {}", RationText(more)),
+        None => println!(rt; "past the largest"),
+    }
 }
 
 fn starts(rt: &impl Print) -> io::Result<()> {
-    start(rt, 0)?;
-    start(rt, 1)?;
-    start(rt, 4)?;
-    start(rt, 36)?;
-    start(rt, 40)?;
-    start(rt, 65535)
-}
-
-// Spends from a finite ration.
-fn spend_of(rt: &impl Print, ration: u32, n: u32) -> io::Result<()> {
-    spend(rt, Ration::Finite(ration), n)
+    for number in [0, 1, 4, 36, 40, 65535] {
+        start(rt, number)?;
+    }
+    Ok(())
 }
 
 // Numbers that differ when they are compared as text.
 fn spends(rt: &impl Print) -> io::Result<()> {
-    spend_of(rt, 9216, 10240)?;
-    spend_of(rt, 10240, 9216)?;
-    spend_of(rt, 9216, 9216)?;
-    spend_of(rt, 9, 10)?;
-    spend_of(rt, 256, 257)?;
-    spend_of(rt, 0, 0)?;
-    spend_of(rt, 0, 1)?;
-    spend_of(rt, 65536, 65535)?;
-    spend_of(rt, 65536, 1)?;
+    let cases = [
+        (9216, 10240),
+        (10240, 9216),
+        (9216, 9216),
+        (9, 10),
+        (256, 257),
+        (0, 0),
+        (0, 1),
+        (65536, 65535),
+        (65536, 1),
+    ];
+    for (left, n) in cases {
+        spend(rt, Ration::Finite(left), n)?;
+    }
     spend(rt, Ration::Endless, 65535)
 }
 
 fn grows(rt: &impl Print) -> io::Result<()> {
-    grow(rt, Ration::Finite(2147483000), 0, 647)?;
-    grow(rt, Ration::Finite(2147483000), 0, 648)?;
-    grow(rt, Ration::Finite(0), 7, 65535)?;
-    grow(rt, Ration::Finite(1073741823), 7, 65535)?;
-    grow(rt, Ration::Finite(1073758208), 7, 65535)?;
-    grow(rt, Ration::Finite(10), 1, 3)?;
+    let cases = [
+        (2147483000, 0, 647),
+        (2147483000, 0, 648),
+        (0, 7, 65535),
+        (1073741823, 7, 65535),
+        (1073758208, 7, 65535),
+        (10, 1, 3),
+    ];
+    for (left, shift, increment) in cases {
+        grow(rt, Ration::Finite(left), shift, increment)?;
+    }
     grow(rt, Ration::Endless, 0, 1)
 }
 

@@ -1,25 +1,30 @@
 // Byte strings through the reader: a table of them, line by line.
 use crate::show;
-use byte_slices::find;
-use script_words::{Size, from_hex, head, is, tail};
+use refusal::ReadError;
+use script_words::{from_hex, head, is, tail};
 use std::io;
 use text_line::first;
+use text_message::MessageText;
 use wire::{Message, Role};
-use wire_connection_header::ReadHeader;
-use wire_read::Read;
 
 // Prints a message that was read, and how many bytes of the input it has.
 fn taken(rt: &impl Print, m: Message) -> io::Result<()> {
-    show::text(rt, b": ok ")?;
-    show::message(rt, m)?;
-    show::item(rt, b" used ", 4 + (wire_fields::body_length(m) as u64))
+    let used = 4 + u32::from(wire_fields::body_length(m));
+    print!(rt; ": ok {} used {used}", MessageText(m))
 }
 
-fn answer(rt: &impl Print, answer: Read) -> io::Result<()> {
+// Prints why nothing was read.
+fn unread(rt: &impl Print, error: ReadError) -> io::Result<()> {
+    match error {
+        ReadError::Incomplete => show::refused(rt, 10),
+        ReadError::Violated(fault) => show::violated(rt, fault),
+    }
+}
+
+fn answer(rt: &impl Print, answer: Result<Message, ReadError>) -> io::Result<()> {
     match answer {
-        Read::Message(m) => taken(rt, m),
-        Read::Incomplete => show::refused(rt, 10),
-        Read::Violated(fault) => show::violated(rt, fault),
+        Ok(m) => taken(rt, m),
+        Err(error) => unread(rt, error),
     }
 }
 
@@ -33,19 +38,20 @@ fn role_of(name: &[u8]) -> Role {
 
 // The number behind a parenthesis, or n if there is none.
 fn count(s: &[u8], n: usize) -> usize {
-    if 0 < s.len() {
-        if let Size::Is(k) = script_words::size_of(head(&s[1..]), 65600) {
-            return k;
-        }
+    match s {
+        [_, rest @ ..] => script_words::size_of(head(rest), 65600).unwrap_or(n),
+        [] => n,
     }
-    n
 }
 
 // Puts bytes at the start of a room, and returns how many bytes are meant in all.
 fn put_bytes(digits: &[u8], room: &mut [u8]) -> usize {
-    let k = find(digits, 0, digits.len(), b'(');
+    let k = digits
+        .iter()
+        .position(|b| *b == b'(')
+        .unwrap_or(digits.len());
     let n = from_hex(first(digits, k), room);
-    count(&digits[k..], n)
+    count(digits.get(k..).unwrap_or(b""), n)
 }
 
 // Prints what the bytes of a message, behind the name of their sender, are read as.
@@ -58,11 +64,10 @@ fn message(rt: &impl Print, line: &[u8]) -> io::Result<()> {
     )
 }
 
-fn header_answer(rt: &impl Print, answer: ReadHeader) -> io::Result<()> {
+fn header_answer(rt: &impl Print, answer: Result<u16, ReadError>) -> io::Result<()> {
     match answer {
-        ReadHeader::Number(n) => show::item(rt, b": ok ", n as u64),
-        ReadHeader::Incomplete => show::refused(rt, 10),
-        ReadHeader::Violated(fault) => show::violated(rt, fault),
+        Ok(n) => print!(rt; ": ok {n}"),
+        Err(error) => unread(rt, error),
     }
 }
 
@@ -80,21 +85,18 @@ fn line(rt: &impl Print, line: &[u8]) -> io::Result<()> {
     if script_words::is_skipped(line) {
         return Ok(());
     }
-    show::text(rt, line)?;
+    rt.write_all(line)?;
     if is(head(line), b"header") {
         header(rt, tail(line))?;
     } else {
         message(rt, tail(line))?;
     }
-    show::end(rt)
+    rt.println("")
 }
 
 pub(crate) fn all(rt: &impl Print, table: &[u8]) -> io::Result<()> {
-    let mut at = 0;
-    while at < table.len() {
-        let end = find(table, at, table.len(), b'\n');
-        line(rt, &table[at..end])?;
-        at = end + 1;
+    for text in table.split(|b| *b == b'\n') {
+        line(rt, text)?;
     }
     Ok(())
 }

@@ -1,54 +1,49 @@
 // Messages through the writer.
 use crate::show;
+use crate::show::role_word;
+use refusal::Refusal;
 use std::io;
+use text_line::Hex;
+use text_message::MessageText;
 use wire::{Message, Role};
-use wire_connection_header::Written;
 
 // Prints what was written, and the bytes of the room behind it.
 fn wrote(rt: &impl Print, n: usize, room: &[u8]) -> io::Result<()> {
-    if n <= room.len() {
-        show::part(rt, b": wrote ", text_line::first(room, n))?;
-        show::part(rt, b" then ", &room[n..])?;
+    if let Some((front, back)) = room.split_at_checked(n) {
+        print!(rt; ": wrote {} then {}", Hex(front), Hex(back))?;
     }
     Ok(())
 }
 
-fn refused(rt: &impl Print, n: u64, room: &[u8]) -> io::Result<()> {
-    show::refused(rt, n)?;
-    show::part(rt, b" room ", room)
+fn refused(rt: &impl Print, number: u8, room: &[u8]) -> io::Result<()> {
+    show::refused(rt, number)?;
+    print!(rt; " room {}", Hex(room))
 }
 
-fn result(rt: &impl Print, w: Written, room: &[u8]) -> io::Result<()> {
+fn result(rt: &impl Print, w: Result<usize, Refusal>, room: &[u8]) -> io::Result<()> {
     match w {
-        Written::Wrote(n) => wrote(rt, n, room),
-        Written::Refused(r) => refused(rt, r.number() as u64, room),
+        Ok(n) => wrote(rt, n, room),
+        Err(r) => refused(rt, r.number(), room),
     }
 }
 
+// Writes a message in a room, behind the name of the case.
 fn write_to(
     rt: &impl Print,
+    name: &str,
     room: &mut [u8],
     from: Role,
     m: Message,
     body: &[u8],
 ) -> io::Result<()> {
     let w = wire_write::write_message(from, m, body, room);
-    show::role(rt, from)?;
-    show::message(rt, m)?;
+    print!(rt; "{name} {} {}", role_word(from), MessageText(m))?;
     result(rt, w, room)?;
-    show::end(rt)
+    rt.println("")
 }
 
 fn write(rt: &impl Print, from: Role, m: Message, body: &[u8]) -> io::Result<()> {
-    let mut room = [0xEEu8; 12];
-    show::text(rt, b"write ")?;
-    write_to(rt, &mut room, from, m, body)
-}
-
-fn write_short(rt: &impl Print, from: Role, m: Message, body: &[u8]) -> io::Result<()> {
-    let mut room = [0xEEu8; 6];
-    show::text(rt, b"write short ")?;
-    write_to(rt, &mut room, from, m, body)
+    write_to(rt, "write", &mut [0xEE; 12], from, m, body)
 }
 
 // A message with no bytes behind it.
@@ -137,32 +132,44 @@ fn values(rt: &impl Print) -> io::Result<()> {
 // Rooms that are too small, and one that is just large enough; a value is judged before the room.
 fn rooms(rt: &impl Print) -> io::Result<()> {
     write(rt, Role::Client, plain(5, 9), b"123456789")?;
-    write_short(rt, Role::Client, plain(5, 3), b"abc")?;
-    write_short(rt, Role::Client, plain(5, 2), b"ab")?;
-    write_short(rt, Role::Client, plain(128, 3), b"abc")
+    write_to(
+        rt,
+        "write short",
+        &mut [0xEE; 6],
+        Role::Client,
+        plain(5, 3),
+        b"abc",
+    )?;
+    write_to(
+        rt,
+        "write short",
+        &mut [0xEE; 6],
+        Role::Client,
+        plain(5, 2),
+        b"ab",
+    )?;
+    write_to(
+        rt,
+        "write short",
+        &mut [0xEE; 6],
+        Role::Client,
+        plain(128, 3),
+        b"abc",
+    )
 }
 
-fn header_to(rt: &impl Print, room: &mut [u8], name: &[u8], n: u16) -> io::Result<()> {
+// Writes a connection header in a room, behind the name of the case.
+fn header_to(rt: &impl Print, name: &str, room: &mut [u8], n: u16) -> io::Result<()> {
     let w = wire_connection_header::write_connection_header(n, room);
-    show::item(rt, name, n as u64)?;
+    print!(rt; "{name} {n}")?;
     result(rt, w, room)?;
-    show::end(rt)
-}
-
-fn header(rt: &impl Print, n: u16) -> io::Result<()> {
-    let mut room = [0xEEu8; 10];
-    header_to(rt, &mut room, b"write header ", n)
-}
-
-fn header_short(rt: &impl Print, n: u16) -> io::Result<()> {
-    let mut room = [0xEEu8; 7];
-    header_to(rt, &mut room, b"write short header ", n)
+    rt.println("")
 }
 
 fn connection(rt: &impl Print) -> io::Result<()> {
-    header(rt, 4)?;
-    header(rt, 65535)?;
-    header_short(rt, 4)
+    header_to(rt, "write header", &mut [0xEE; 10], 4)?;
+    header_to(rt, "write header", &mut [0xEE; 10], 65535)?;
+    header_to(rt, "write short header", &mut [0xEE; 7], 4)
 }
 
 pub(crate) fn all(rt: &impl Print) -> io::Result<()> {

@@ -9,39 +9,22 @@ pub fn body_length(m: Message) -> u16
     ensures { result ≡ body_length m }
 {
     match m {
-        Message::NoOperation { length } => length,
-        Message::Shutdown { length } => length,
-        Message::Ping { .. } => 0,
-        Message::PingAck { .. } => 0,
-        Message::Error { length } => length,
-        Message::IncrementRation { .. } => 0,
-        Message::Abort { length, .. } => length,
-        Message::Close { .. } => 0,
-        Message::Acknowledgment { .. } => 0,
-        Message::Data { length, .. } => length,
+        Message::NoOperation { length }
+        | Message::Shutdown { length }
+        | Message::Error { length }
+        | Message::Abort { length, .. }
+        | Message::Data { length, .. } => length,
+        Message::Ping { .. }
+        | Message::PingAck { .. }
+        | Message::IncrementRation { .. }
+        | Message::Acknowledgment { .. }
+        | Message::Close { .. } => 0,
     }
 }
 
-// Two to the power of twice a shift; only the low three bits of the shift count.
-fn factor(shift: u8) -> u32
-    ensures { (result ≡ 2 ^ (2 * (shift % 8))) × (result ≤ 16384) }
-{
-    let low = shift % 8;
-    match low {
-        0 => 1,
-        1 => 4,
-        2 => 16,
-        3 => 64,
-        4 => 256,
-        5 => 1024,
-        6 => 4096,
-        _ => 16384,
-    }
-}
-
-// How many bytes an IncrementRation adds.
+// How many bytes an IncrementRation adds; only the low three bits of the shift count.
 pub fn effective_increment(shift: u8, increment: u16) -> u32
     ensures { result ≡ effective_increment shift increment }
 {
-    (increment as u32) * factor(shift)
+    (increment as u32) << (2 * (shift % 8))
 }

@@ -9,16 +9,16 @@ pub fn second_byte(m: Message) -> u8
     ensures { result ≡ second_byte m }
 {
     match m {
-        Message::NoOperation { .. } => 0,
-        Message::Shutdown { .. } => 0,
-        Message::Ping { .. } => 0,
-        Message::PingAck { .. } => 0,
-        Message::Error { .. } => 0,
-        Message::IncrementRation { session, .. } => session,
-        Message::Abort { session, .. } => session,
-        Message::Close { session } => session,
-        Message::Acknowledgment { session } => session,
-        Message::Data { session, .. } => session,
+        Message::IncrementRation { session, .. }
+        | Message::Abort { session, .. }
+        | Message::Acknowledgment { session }
+        | Message::Data { session, .. }
+        | Message::Close { session } => session,
+        Message::NoOperation { .. }
+        | Message::Shutdown { .. }
+        | Message::Ping { .. }
+        | Message::PingAck { .. }
+        | Message::Error { .. } => 0,
     }
 }
 
@@ -27,16 +27,14 @@ pub fn number_of(m: Message) -> u16
     ensures { result ≡ number_of m }
 {
     match m {
-        Message::NoOperation { length } => length,
-        Message::Shutdown { length } => length,
-        Message::Ping { cookie } => cookie,
-        Message::PingAck { cookie } => cookie,
-        Message::Error { length } => length,
+        Message::NoOperation { length }
+        | Message::Shutdown { length }
+        | Message::Error { length }
+        | Message::Abort { length, .. }
+        | Message::Data { length, .. } => length,
+        Message::PingAck { cookie } | Message::Ping { cookie } => cookie,
         Message::IncrementRation { increment, .. } => increment,
-        Message::Abort { length, .. } => length,
-        Message::Close { .. } => 0,
-        Message::Acknowledgment { .. } => 0,
-        Message::Data { length, .. } => length,
+        Message::Close { .. } | Message::Acknowledgment { .. } => 0,
     }
 }
 
@@ -45,16 +43,8 @@ pub fn shift_of(m: Message) -> u8
     ensures { result ≡ shift_of m }
 {
     match m {
-        Message::NoOperation { .. } => 0,
-        Message::Shutdown { .. } => 0,
-        Message::Ping { .. } => 0,
-        Message::PingAck { .. } => 0,
-        Message::Error { .. } => 0,
         Message::IncrementRation { shift, .. } => shift,
-        Message::Abort { .. } => 0,
-        Message::Close { .. } => 0,
-        Message::Acknowledgment { .. } => 0,
-        Message::Data { .. } => 0,
+        _ => 0,
     }
 }
 

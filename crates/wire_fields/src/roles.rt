@@ -7,17 +7,11 @@ use wire::Role;
 pub fn is_server(role: Role) -> bool
     ensures { result ≡ is_server role }
 {
-    match role {
-        Role::Client => false,
-        Role::Server => true,
-    }
+    role == Role::Server
 }
 
 pub fn is_client(role: Role) -> bool
     ensures { result ≡ is_client role }
 {
-    match role {
-        Role::Client => true,
-        Role::Server => false,
-    }
+    role == Role::Client
 }

@@ -10,16 +10,15 @@ pub fn may_send(from: Role, kind: Kind) -> bool
     ensures { result ≡ may_send from kind }
 {
     match kind {
-        Kind::NoOperation => true,
-        Kind::Shutdown => is_server(from),
-        Kind::Ping => true,
-        Kind::PingAck => true,
-        Kind::Error => true,
-        Kind::IncrementRation => true,
-        Kind::Abort => true,
-        Kind::Close => is_server(from),
+        Kind::Shutdown | Kind::Close => is_server(from),
         Kind::Acknowledgment => is_client(from),
-        Kind::Data => true,
+        Kind::NoOperation
+        | Kind::PingAck
+        | Kind::Error
+        | Kind::IncrementRation
+        | Kind::Abort
+        | Kind::Data
+        | Kind::Ping => true,
     }
 }
 
@@ -28,16 +27,8 @@ pub fn data_flags(from: Role, opens: bool, close: bool, eof: bool, ack: bool) ->
     ensures { result ≡ data_flags from opens close eof ack }
 {
     match from {
-        Role::Client => !(close | ack),
-        Role::Server => {
-            if opens {
-                return false;
-            }
-            if eof {
-                return true;
-            }
-            !(close | ack)
-        }
+        Role::Client => !(close || ack),
+        Role::Server => !opens && (eof || !(close || ack)),
     }
 }
 
@@ -45,7 +36,7 @@ pub fn data_flags(from: Role, opens: bool, close: bool, eof: bool, ack: bool) ->
 pub fn abort_flags(from: Role, partial: bool) -> bool
     ensures { result ≡ only_if partial (is_server from) }
 {
-    !partial | is_server(from)
+    !partial || is_server(from)
 }
 
 // Whether a sender may set the flags that a message has.
@@ -53,15 +44,7 @@ pub fn flags_allowed(from: Role, m: Message) -> bool
     ensures { result ≡ flags_allowed from m }
 {
     match m {
-        Message::NoOperation { .. } => true,
-        Message::Shutdown { .. } => true,
-        Message::Ping { .. } => true,
-        Message::PingAck { .. } => true,
-        Message::Error { .. } => true,
-        Message::IncrementRation { .. } => true,
         Message::Abort { partial, .. } => abort_flags(from, partial),
-        Message::Close { .. } => true,
-        Message::Acknowledgment { .. } => true,
         Message::Data {
             open,
             close,
@@ -69,5 +52,6 @@ pub fn flags_allowed(from: Role, m: Message) -> bool
             ack_required,
             ..
         } => data_flags(from, open, close, eof, ack_required),
+        _ => true,
     }
 }

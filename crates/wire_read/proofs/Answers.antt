@@ -1,4 +1,5 @@
 -- What a violation that the reader finds says: the number and the place that its fault holds, as they are; and how long a message is.
+use Rattle.std.specs.Prelude.{Err}
 use mathlib.Core.Path.{◌≡◌, refl, ap, ◌∙◌}
 use mathlib.Core.List.{List, ◌++◌}
 use Prim.Native.Nat.{ℕ, ◌+◌, ◌≤◌}
@@ -11,14 +12,13 @@ use Rattle.wire.specs.declared.Role.{Role}
 use Rattle.wire.specs.declared.Message.{Message}
 use Rattle.wire.specs.Message.{body_length, header, read_message}
 use Rattle.wire.proofs.Laws.{message_holds}
-use Rattle.wire_read.specs.declared.Parsed.TheVariants as parsed
-use Rattle.wire_read.specs.declared.Read.TheVariants as read
+use Rattle.refusal.specs.declared.ReadError.TheVariants.{Violated}
 use Rattle.wire_read.specs.Answer.{parsed_as, read_as, size_in}
 
-pub parsed_says : (f : Fault) → parsed_as (parsed.Violated f) ≡ violation (record { number = violation_number f.violation; place = f.offset })
+pub parsed_says : (f : Fault) → parsed_as (Err f) ≡ violation (record { number = violation_number f.violation; place = f.offset })
 parsed_says f = refl
 
-pub read_says : (f : Fault) → read_as (read.Violated f) ≡ violation (record { number = violation_number f.violation; place = f.offset })
+pub read_says : (f : Fault) → read_as (Err (Violated f)) ≡ violation (record { number = violation_number f.violation; place = f.offset })
 read_says f = refl
 
 -- a message is no longer than the input that it is read from

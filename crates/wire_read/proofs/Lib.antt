@@ -1,4 +1,4 @@
--- What the reader's answers say, the order of its checks, and that no message is longer than its header says.
+-- What the reader's answers say, the order of its checks, and an input that has its four header bytes.
 pub mod Answers
 pub mod Order
-pub mod Longest
+pub mod Long

@@ -1,145 +1,178 @@
 // The four header bytes of a message, each type with its own checks: Data before the other types, since most
 // messages are Data.
-ghost use Rattle.std.specs.Prelude.{◌≡◌, ◌+◌, ◌*◌, ◌/◌, ◌%◌};
+ghost use Rattle.std.specs.Prelude.{◌≡◌, ◌+◌, ◌*◌, ◌/◌, false, Some, true, ◌&&◌, eqb, ltb, MatchResult};
+ghost use Rattle.laws.specs.Pick.{pick};
+ghost use Rattle.laws.specs.Result.{ok, fault, violation as result_violation};
+ghost use Rattle.refusal.specs.Number.{violation_number, fault_as};
 ghost use Rattle.wire.specs.declared.Kind.TheVariants.{IncrementRation, Abort, Data};
-ghost use Rattle.wire.specs.declared.Named.TheVariants.{Known};
 ghost use Rattle.wire.specs.FirstByte.{kind_of};
-ghost use Rattle.wire_read.specs.Answer.{sized_as, header_read};
+ghost use Rattle.wire.specs.Message.{flags_allowed, parse_header};
+ghost use Rattle.wire_read.specs.Answer.{parsed_as, header_bytes};
+ghost use Rattle.wire_read.specs.Order.{in_order};
 
-use crate::Sized;
-use crate::sizes::{bare, broken, complete, is_session, whole};
-use refusal::Violation;
+use refusal::{Fault, Violation};
 use wire::{Message, Role};
-use wire_fields::{abort_flags, data_flags, is_client, is_server};
+use wire_fields::{flags_allowed, is_client, is_server};
 
-// The 16-bit number of two bytes, high byte first.
-fn join(high: u8, low: u8) -> u16
-    ensures { result ≡ high * 256 + low }
+// A violation, with the offset of the byte at fault.
+fn broken(violation: Violation, offset: u16) -> Fault
+    ensures { fault_as result ≡ fault (violation_number violation) offset }
 {
-    (high as u16) * 256 + (low as u16)
+    Fault { violation, offset }
 }
 
-// Data, whose flags are asked behind its reserved bit.
-fn data(from: Role, have: usize, first: u8, second: u8, third: u8, fourth: u8) -> Sized
-    requires { kind_of first ≡ Known Data }
-    ensures { sized_as result ≡ header_read from have first second third fourth }
+// A message, if its sender may send it.
+fn if_sent(allowed: bool, message: Message) -> Result<Message, Fault>
+    ensures { parsed_as result ≡ pick allowed (ok message) (result_violation (fault 23 0)) }
 {
-    if !is_session(second) {
-        return broken(Violation::ReservedBit, 1);
+    if allowed {
+        Ok(message)
+    } else {
+        Err(broken(Violation::WrongSender, 0))
     }
-    let open = first / 16 % 2 == 1;
-    let close = first / 8 % 2 == 1;
-    let eof = first / 4 % 2 == 1;
-    let ack_required = first / 2 % 2 == 1;
-    if data_flags(from, open, close, eof, ack_required) {
-        let length = join(third, fourth);
-        let message = Message::Data {
-            open,
-            close,
-            eof,
-            ack_required,
-            session: second,
-            length,
-        };
-        return complete(have, message, length);
-    }
-    broken(Violation::WrongFlags, 0)
 }
 
-// An IncrementRation: nothing follows it.
-fn increment_ration(from: Role, have: usize, first: u8, second: u8, third: u8, fourth: u8) -> Sized
-    requires { kind_of first ≡ Known IncrementRation }
-    ensures { sized_as result ≡ header_read from have first second third fourth }
+// A message, if its sender may set its flags.
+fn if_flagged(from: Role, message: Message) -> Result<Message, Fault>
+    ensures { parsed_as result ≡ pick (flags_allowed from message) (ok message) (result_violation (fault 24 0)) }
 {
-    if !is_session(second) {
-        return broken(Violation::ReservedBit, 1);
+    if flags_allowed(from, message) {
+        Ok(message)
+    } else {
+        Err(broken(Violation::WrongFlags, 0))
     }
-    let message = Message::IncrementRation {
-        shift: first / 2 % 8,
-        session: second,
-        increment: join(third, fourth),
-    };
-    complete(have, message, 0)
 }
 
-// An Abort: partial is asked behind its reserved bit.
-fn abort(from: Role, have: usize, first: u8, second: u8, third: u8, fourth: u8) -> Sized
-    requires { kind_of first ≡ Known Abort }
-    ensures { sized_as result ≡ header_read from have first second third fourth }
-{
-    if !is_session(second) {
-        return broken(Violation::ReservedBit, 1);
-    }
-    let partial = first / 2 % 2 == 1;
-    if abort_flags(from, partial) {
-        let length = join(third, fourth);
-        let message = Message::Abort {
-            partial,
-            session: second,
-            length,
-        };
-        return complete(have, message, length);
-    }
-    broken(Violation::WrongFlags, 0)
+// The four header bytes of a message.
+#[derive(Clone, Copy)]
+pub(crate) struct Header {
+    pub first: u8,
+    pub second: u8,
+    pub third: u8,
+    pub fourth: u8,
 }
 
-// A message whose first byte has no item, if it names a type.
-fn of_one_byte(from: Role, have: usize, first: u8, second: u8, third: u8, fourth: u8) -> Sized
-    requires { (first / 16 ≡ 1 → ⊥) × (first / 4 ≡ 8 → ⊥) × (first / 32 ≡ 4 → ⊥) }
-    ensures { sized_as result ≡ header_read from have first second third fourth }
-{
+impl Header {
     // The number in bytes 2 and 3.
-    let n = join(third, fourth);
-    let server = is_server(from);
-    let client = is_client(from);
-    match first {
-        0x00 => whole(true, have, Message::NoOperation { length: n }, n, second),
-        0x02 => whole(server, have, Message::Shutdown { length: n }, n, second),
-        0x04 => whole(true, have, Message::Ping { cookie: n }, 0, second),
-        0x06 => whole(true, have, Message::PingAck { cookie: n }, 0, second),
-        0x08 => whole(true, have, Message::Error { length: n }, n, second),
-        0x30 => bare(
-            server,
-            have,
-            Message::Close { session: second },
-            second,
-            third,
-            fourth,
-        ),
-        0x40 => bare(
-            client,
-            have,
-            Message::Acknowledgment { session: second },
-            second,
-            third,
-            fourth,
-        ),
-        _ => broken(Violation::UnknownType, 0),
+    fn number(self) -> u16
+        ensures { result ≡ self.third * 256 + self.fourth }
+    {
+        u16::from_be_bytes([self.third, self.fourth])
     }
-}
 
-// What the four header bytes of a message from a sender say, where so many bytes are there from the first on.
-pub(crate) fn read_header(
-    from: Role,
-    have: usize,
-    first: u8,
-    second: u8,
-    third: u8,
-    fourth: u8,
-) -> Sized
-    ensures { sized_as result ≡ header_read from have first second third fourth }
-{
-    if first % 2 == 1 {
-        return broken(Violation::UnknownType, 0);
+    // The session number in byte 1, whose high bit is reserved.
+    fn session(self) -> Result<u8, Fault>
+        ensures { MatchResult result (λ number. (number ≡ self.second) × (ltb self.second 128 ≡ true)) (λ f. (fault_as f ≡ fault 21 1) × (ltb self.second 128 ≡ false)) }
+    {
+        if self.second < 128 {
+            Ok(self.second)
+        } else {
+            Err(broken(Violation::ReservedBit, 1))
+        }
     }
-    if first / 32 == 4 {
-        return data(from, have, first, second, third, fourth);
+
+    // A message of the connection as a whole: its byte 1 is 0.
+    fn whole(self, allowed: bool, message: Message) -> Result<Message, Fault>
+        ensures { parsed_as result ≡ in_order (eqb self.second 0) 1 allowed true message }
+    {
+        if self.second != 0 {
+            return Err(broken(Violation::ReservedBit, 1));
+        }
+        if_sent(allowed, message)
     }
-    if first / 16 == 1 {
-        return increment_ration(from, have, first, second, third, fourth);
+
+    // A message that has a session and nothing else: its bytes 2 and 3 are 0.
+    fn bare(self, allowed: bool, message: Message) -> Result<Message, Fault>
+        ensures { parsed_as result ≡ in_order (ltb self.second 128 && eqb self.third 0 && eqb self.fourth 0) (pick (ltb self.second 128) (pick (eqb self.third 0) 3 2) 1) allowed true message }
+    {
+        self.session()?;
+        if self.third != 0 {
+            return Err(broken(Violation::ReservedBit, 2));
+        }
+        if self.fourth != 0 {
+            return Err(broken(Violation::ReservedBit, 3));
+        }
+        if_sent(allowed, message)
     }
-    if first / 4 == 8 {
-        return abort(from, have, first, second, third, fourth);
+
+    // Data, whose flags are asked behind its reserved bit.
+    fn data(self, from: Role) -> Result<Message, Fault>
+        requires { kind_of self.first ≡ Some Data }
+        ensures { parsed_as result ≡ parse_header from (header_bytes self) }
+    {
+        let session = self.session()?;
+        let data = Message::Data {
+            open: self.first / 16 % 2 == 1,
+            close: self.first / 8 % 2 == 1,
+            eof: self.first / 4 % 2 == 1,
+            ack_required: self.first / 2 % 2 == 1,
+            session,
+            length: self.number(),
+        };
+        if_flagged(from, data)
     }
-    of_one_byte(from, have, first, second, third, fourth)
+
+    // An IncrementRation: nothing follows it.
+    fn increment_ration(self, from: Role) -> Result<Message, Fault>
+        requires { kind_of self.first ≡ Some IncrementRation }
+        ensures { parsed_as result ≡ parse_header from (header_bytes self) }
+    {
+        Ok(Message::IncrementRation {
+            session: self.session()?,
+            shift: self.first / 2 % 8,
+            increment: self.number(),
+        })
+    }
+
+    // An Abort: partial is asked behind its reserved bit.
+    fn abort(self, from: Role) -> Result<Message, Fault>
+        requires { kind_of self.first ≡ Some Abort }
+        ensures { parsed_as result ≡ parse_header from (header_bytes self) }
+    {
+        let session = self.session()?;
+        let abort = Message::Abort {
+            partial: self.first / 2 % 2 == 1,
+            session,
+            length: self.number(),
+        };
+        if_flagged(from, abort)
+    }
+
+    // A message whose first byte has no item, if it names a type.
+    fn of_one_byte(self, from: Role) -> Result<Message, Fault>
+        requires { (self.first / 16 ≡ 1 → ⊥) × (self.first / 4 ≡ 8 → ⊥) × (self.first / 32 ≡ 4 → ⊥) }
+        ensures { parsed_as result ≡ parse_header from (header_bytes self) }
+    {
+        let session = self.second;
+        let n = self.number();
+        let server = is_server(from);
+        let client = is_client(from);
+        match self.first {
+            0x00 => self.whole(true, Message::NoOperation { length: n }),
+            0x02 => self.whole(server, Message::Shutdown { length: n }),
+            0x04 => self.whole(true, Message::Ping { cookie: n }),
+            0x06 => self.whole(true, Message::PingAck { cookie: n }),
+            0x08 => self.whole(true, Message::Error { length: n }),
+            0x30 => self.bare(server, Message::Close { session }),
+            0x40 => self.bare(client, Message::Acknowledgment { session }),
+            _ => Err(broken(Violation::UnknownType, 0)),
+        }
+    }
+
+    // What the header of a message from a sender says.
+    pub fn parse(self, from: Role) -> Result<Message, Fault>
+        ensures { parsed_as result ≡ parse_header from (header_bytes self) }
+    {
+        if self.first % 2 == 1 {
+            Err(broken(Violation::UnknownType, 0))
+        } else if self.first / 32 == 4 {
+            self.data(from)
+        } else if self.first / 16 == 1 {
+            self.increment_ration(from)
+        } else if self.first / 4 == 8 {
+            self.abort(from)
+        } else {
+            self.of_one_byte(from)
+        }
+    }
 }

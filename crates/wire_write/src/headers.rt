@@ -9,10 +9,7 @@ use wire_fields::{number_of, second_byte};
 fn weight(w: u8, set: bool) -> u8
     ensures { (result ≡ message_weight w set) × (result ≤ w) }
 {
-    if set {
-        return w;
-    }
-    0
+    if set { w } else { 0 }
 }
 
 // The first byte of a message; only the low three bits of a shift count.
@@ -45,11 +42,6 @@ fn first_byte(m: Message) -> u8
 pub fn header_of(m: Message) -> [u8; 4]
     ensures { result ≡ header m }
 {
-    let n = number_of(m);
-    [
-        first_byte(m),
-        second_byte(m),
-        (n / 256) as u8,
-        (n % 256) as u8,
-    ]
+    let [high, low] = number_of(m).to_be_bytes();
+    [first_byte(m), second_byte(m), high, low]
 }

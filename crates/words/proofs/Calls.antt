@@ -5,7 +5,7 @@ use mathlib.Core.List.{List, []}
 use Prim.Native.Nat.{ℕ}
 use lib.ListN.{length}
 use Rattle.laws.specs.Pick.{pick}
-use Rattle.laws.proofs.Pick.{yes, no}
+use Rattle.laws.proofs.Pick.{yes}
 use Rattle.state.specs.declared.Connection.{Connection}
 use Rattle.protocol.specs.Connection.{well_formed}
 use Rattle.protocol.specs.Judge.{refuse}

@@ -7,7 +7,7 @@ use native.Mathlib.Omega.{arith}
 use lib.Dec.{eqb, ltb, leb}
 use borrow.Author.Tests.{eq-eqb, ne_eqb, lt-ltb, le-ltb, le-leb, ltb-true, ltb-false, leb-true, eqb-true, eqb-false}
 use Rattle.laws.specs.Pick.{pick}
-use Rattle.laws.proofs.Tests.{and_first, and_second, and_both}
+use Rattle.laws.proofs.Tests.{and_first, and_second}
 use Rattle.laws.proofs.Below.{below_number, below_test}
 use Rattle.ration.specs.declared.Ration.{Ration}
 use Rattle.ration.specs.declared.Ration.TheVariants as ration
@@ -67,13 +67,13 @@ ration_back ration.Endless e = refl
 
 -- ---- cases and their numbers
 
-side_back : (s : Side) → side_of (side_number s) ≡ s
+pub side_back : (s : Side) → side_of (side_number s) ≡ s
 unfolding side_of pick
 side_back side.Open = refl
 side_back side.Finished = refl
 side_back side.Ended = refl
 
-before_back : (b : Before) → before_of (before_number b) ≡ b
+pub before_back : (b : Before) → before_of (before_number b) ≡ b
 unfolding before_of pick
 before_back before.Idle = refl
 before_back before.Finished = refl
@@ -87,15 +87,15 @@ outcome_back outcome.Complete = refl
 outcome_back outcome.MayRetry = refl
 outcome_back outcome.MustNotRetry = refl
 
-side_number_lem : (n : ℕ) → n < side_cases → side_number (side_of n) ≡ n
+pub side_number_lem : (n : ℕ) → n < side_cases → side_number (side_of n) ≡ n
 unfolding side_of pick
 side_number_lem n h = below_number (λ k. side_number (side_of k)) (λ k. k) side_cases tt n h
 
-before_number_lem : (n : ℕ) → n < before_cases → before_number (before_of n) ≡ n
+pub before_number_lem : (n : ℕ) → n < before_cases → before_number (before_of n) ≡ n
 unfolding before_of pick
 before_number_lem n h = below_number (λ k. before_number (before_of k)) (λ k. k) before_cases tt n h
 
-outcome_number_lem : (n : ℕ) → n < outcome_cases → outcome_number (outcome_of n) ≡ n
+pub outcome_number_lem : (n : ℕ) → n < outcome_cases → outcome_number (outcome_of n) ≡ n
 unfolding outcome_of pick
 outcome_number_lem n h = below_number (λ k. outcome_number (outcome_of k)) (λ k. k) outcome_cases tt n h
 
@@ -103,17 +103,17 @@ resting_number : (z held : ℕ) → z < open_from → phase_number (resting_side
 unfolding resting_sides side_of pick
 resting_number z held h = below_number (λ k. phase_number (resting_sides k) held) (λ k. k) open_from tt z h
 
-side_small : (s : Side) → side_number s < side_cases
+pub side_small : (s : Side) → side_number s < side_cases
 side_small side.Open = omega arith
 side_small side.Finished = omega arith
 side_small side.Ended = omega arith
 
-before_small : (b : Before) → before_number b < before_cases
+pub before_small : (b : Before) → before_number b < before_cases
 before_small before.Idle = omega arith
 before_small before.Finished = omega arith
 before_small before.Ended = omega arith
 
-outcome_small : (o : Outcome) → outcome_number o < outcome_cases
+pub outcome_small : (o : Outcome) → outcome_number o < outcome_cases
 outcome_small outcome.None = omega arith
 outcome_small outcome.Running = omega arith
 outcome_small outcome.Complete = omega arith
@@ -145,6 +145,14 @@ phase_number_lem z =
     (by_test (ltb z opening_from)
     (λ t. rw (t, side_number_lem ((z - open_from) % side_cases) (omega arith)) (omega (arith, ltb-false z open_from f)))
     (λ g. rw (g, before_number_lem ((z - opening_from) % before_cases) (omega arith)) (omega (arith, ltb-false z opening_from g)))))
+
+-- a phase below their end holds no more than a slot and a finish
+pub held_below : (z : ℕ) → z < phases_end → held_in (phase_of z) < held_cases
+unfolding phase_of pick
+held_below z l =
+    by_test (ltb z open_from)
+    (λ t. rw t (omega arith))
+    (λ f. rw f (by_test (ltb z opening_from) (λ t. rw t (omega (arith, ltb-true z opening_from t))) (λ g. rw g (omega arith))))
 
 -- the words of the session of three words
 pub outbound_back : (a b s : ℕ) → outbound_word (session_of a b s) ≡ a

@@ -1,45 +1,44 @@
 -- The laws of a connection's words: the words of the connection of words are these words, if it is well formed; and the connection of the
 -- words of a connection that is well formed is this connection.
+use Rattle.std.specs.Prelude.{Option, Some, None}
 use mathlib.Core.Path.{◌≡◌, refl, sym, ap, ◌∙◌}
 use mathlib.Core.Bool.{Bool, true, false, ◌&&◌}
 use mathlib.Core.List.{List, [], ◌∷◌, ◌++◌, map}
-use Prim.Native.Nat.{ℕ, zero, suc, ◌+◌, ◌*◌, ◌-◌, ◌/◌, ◌%◌, ◌<◌, ◌≤◌, suc-le-suc}
+use Prim.Native.Nat.{ℕ, zero, suc, ◌+◌, ◌*◌, ◌-◌, ◌/◌, ◌%◌, ◌<◌}
 use native.Mathlib.Nat.{not-suc-le-zero, le_of_suc-le-suc}
 use native.Mathlib.Omega.{arith}
-use lib.ListN.{length, get_or, take, drop, replicate, take-append-drop, length-drop, length-append}
+use lib.ListN.{length, get_or, take, drop, replicate, take-append-drop, length-drop, length-append, length-map}
 use lib.Seq.{take_at, drop_at, get_or-drop, get_or-take, drop-drop, drop-cons, length-take-le}
 use lib.Dec.{eqb, ltb}
 use borrow.Author.Tests.{ne_eqb, lt-ltb, le-ltb, ltb-true, ltb-false, eqb-true, eqb-false}
 use Rattle.laws.specs.Pick.{pick}
 use Rattle.laws.proofs.Pick.{yes, no}
-use Rattle.laws.proofs.Tests.{and_first, and_second, and_both, true_false}
+use Rattle.laws.proofs.Tests.{and_first, and_second, and_both}
 use Rattle.laws.proofs.Below.{below_number}
 use Rattle.wire.specs.declared.Role.{Role}
 use Rattle.wire.specs.declared.Role.TheVariants as role
 use Rattle.state.specs.declared.Session.{Session}
 use Rattle.state.specs.declared.Stage.{Stage}
 use Rattle.state.specs.declared.Stage.TheVariants as stage
-use Rattle.state.specs.declared.Ping.{Ping}
-use Rattle.state.specs.declared.Ping.TheVariants as ping
 use Rattle.state.specs.declared.Connection.{Connection}
 use Rattle.state.specs.New.{blank}
 use Rattle.protocol.specs.Connection.{role_of, exchanged, session_formed, all_formed, well_formed}
-use Rattle.words.specs.Session.{flag_number, outbound_word, inbound_word, status_word, session_of, status_limit, words_fit}
-use Rattle.words.specs.State.{inbound_at, status_at, head_at, stage_at, over_at, own_at, last_at, ping_at, spare_at, spare_count, word_count, role_number, role_in, stage_number, stage_of, ping_number, ping_in, numbers16, stage_cases, ping_cases, head_words, words_of, zipped, sessions_of, all_zero, head_fits, head_in_range, connection_of}
-use Rattle.words.proofs.Sessions.{by_test, flag_number_lem, flag_back, flag_small, outbound_back, inbound_back, status_back, session_back, formed_words}
+use Rattle.words.specs.Session.{outbound_word, inbound_word, status_word, session_of}
+use Rattle.words.specs.State.{inbound_at, status_at, head_at, stage_at, over_at, own_at, last_at, ping_at, spare_at, spare_count, word_count, role_number, role_in, stage_number, stage_of, ping_number, ping_in, numbers16, stage_cases, ping_cases, head_words, words_of, zipped, all_zero, head_in_range, connection_of}
+use Rattle.words.proofs.Sessions.{by_test, flag_number_lem, flag_back, flag_small, outbound_back, inbound_back, status_back, session_back}
 
 -- ---- the parts that are no sessions
 
-role_number_lem : (n : ℕ) → n < 2 → role_number (role_in n) ≡ n
+pub role_number_lem : (n : ℕ) → n < 2 → role_number (role_in n) ≡ n
 unfolding role_in pick
 role_number_lem n h = below_number (λ k. role_number (role_in k)) (λ k. k) 2 tt n h
 
-role_back : (r : Role) → role_in (role_number r) ≡ r
+pub role_back : (r : Role) → role_in (role_number r) ≡ r
 unfolding role_in pick
 role_back role.Client = refl
 role_back role.Server = refl
 
-role_small : (r : Role) → role_number r < 2
+pub role_small : (r : Role) → role_number r < 2
 role_small role.Client = omega arith
 role_small role.Server = omega arith
 
@@ -70,10 +69,10 @@ ping_number_lem : (n : ℕ) → ping_number (ping_in n) ≡ n
 unfolding ping_in pick
 ping_number_lem n = by_test (eqb n 0) (λ t. rw t (sym (eqb-true n 0 t))) (λ f. let d = eqb-false n 0 f in rw f (omega arith))
 
-ping_back : (p : Ping) → ping_in (ping_number p) ≡ p
+ping_back : (p : Option ℕ) → ping_in (ping_number p) ≡ p
 unfolding ping_in pick
-ping_back ping.None = refl
-ping_back (ping.Outstanding k) =
+ping_back None = refl
+ping_back (Some k) =
     let e : 1 + k - 1 ≡ k = omega arith in
     rw (ne_eqb (1 + k) 0 (λ q. omega arith), e)
 
@@ -83,10 +82,6 @@ zeros (x ∷ l) e =
     rw (eqb-true x 0 (and_first (eqb x 0) (all_zero l) e)) (ap (λ (t : List ℕ). 0 ∷ t) (zeros l (and_second (eqb x 0) (all_zero l) e)))
 
 -- ---- the sessions
-
-map_length : {A B : Type 0} (f : A → B) (l : List A) → length (map f l) ≡ length l
-map_length f [] = refl
-map_length f (x ∷ l) = ap suc (map_length f l)
 
 -- three columns of one length
 module _ where
@@ -120,7 +115,7 @@ module _ where
       rw (status_back x y z) (ap (λ (t : List ℕ). z ∷ t) (zipped_status a b s e f))
 
   pub zipped_length : (a b s : List ℕ) → length a ≡ length b → length a ≡ length s → length (zipped a b s) ≡ length a
-  zipped_length a b s p q = sym (map_length outbound_word (zipped a b s)) ∙ ap length (zipped_outbound a b s p q)
+  zipped_length a b s p q = sym (length-map (zipped a b s) outbound_word) ∙ ap length (zipped_outbound a b s p q)
 
   zipped_at : (a b s : List ℕ) (i : ℕ) → i < length a → i < length b → i < length s
       → get_or (zipped a b s) i blank ≡ session_of (get_or a i 0) (get_or b i 0) (get_or s i 0)
@@ -284,13 +279,13 @@ module _ (c : Connection) (t : Typed c) where
   status = map status_word c.sessions
 
   outbound_long : length outbound ≡ 128
-  outbound_long = map_length outbound_word c.sessions ∙ t.sessions
+  outbound_long = length-map c.sessions outbound_word ∙ t.sessions
 
   inbound_long : length inbound ≡ 128
-  inbound_long = map_length inbound_word c.sessions ∙ t.sessions
+  inbound_long = length-map c.sessions inbound_word ∙ t.sessions
 
   status_long : length status ≡ 128
-  status_long = map_length status_word c.sessions ∙ t.sessions
+  status_long = length-map c.sessions status_word ∙ t.sessions
 
   first_words : take 128 (words_of c) ≡ outbound
   unfolding words_of

@@ -1,13 +1,11 @@
 -- One end of a connection in 400 words: three columns of 128, and a head of 16.
-use Rattle.std.specs.Prelude.{ℕ, ◌+◌, ◌*◌, ◌-◌, ◌/◌, ◌%◌, Bool, true, false, ◌&&◌, List, [], ◌∷◌, ◌++◌, map, get_or, take, drop, replicate, eqb, ltb}
+use Rattle.std.specs.Prelude.{ℕ, ◌+◌, ◌*◌, ◌-◌, ◌/◌, ◌%◌, Bool, true, ◌&&◌, List, [], ◌∷◌, ◌++◌, map, get_or, take, drop, replicate, eqb, ltb, Option, Some, None}
 use Rattle.laws.specs.Pick.{pick}
 use Rattle.wire.specs.declared.Role.{Role}
 use Rattle.wire.specs.declared.Role.TheVariants as role
 use Rattle.state.specs.declared.Session.{Session}
 use Rattle.state.specs.declared.Stage.{Stage}
 use Rattle.state.specs.declared.Stage.TheVariants as stage
-use Rattle.state.specs.declared.Ping.{Ping}
-use Rattle.state.specs.declared.Ping.TheVariants as ping
 use Rattle.state.specs.declared.Connection.{Connection}
 use Rattle.words.specs.Session.{flag_number, outbound_word, inbound_word, status_word, session_of}
 
@@ -64,12 +62,12 @@ stage_number (stage.Up r far) = 3 + (2 * far + role_number r)
 unfoldable pub stage_of : ℕ → Stage
 stage_of n = pick (ltb n 2) (stage.Fresh (role_in n)) (pick (eqb n 2) stage.Started (stage.Up (role_in ((n - 3) % 2)) ((n - 3) / 2)))
 
-abbrev pub ping_number : Ping → ℕ
-ping_number ping.None = 0
-ping_number (ping.Outstanding cookie) = 1 + cookie
+abbrev pub ping_number : Option ℕ → ℕ
+ping_number None = 0
+ping_number (Some cookie) = 1 + cookie
 
-unfoldable pub ping_in : ℕ → Ping
-ping_in n = pick (eqb n 0) ping.None (ping.Outstanding (n - 1))
+unfoldable pub ping_in : ℕ → Option ℕ
+ping_in n = pick (eqb n 0) None (Some (n - 1))
 
 -- how many numbers 16 bits have, and with them the stages and the pings
 abbrev pub numbers16 : ℕ

@@ -1,30 +1,31 @@
 -- In the words of a connection that is well formed the session of a number is read and set, the parts of the head are read, and the connection
 -- is ended, as in the connection.
-use mathlib.Core.Path.{◌≡◌, refl, sym, ap, ◌∙◌}
+use Rattle.std.specs.Prelude.{Option}
+use mathlib.Core.Path.{◌≡◌, sym, ap, ◌∙◌}
 use mathlib.Core.Bool.{Bool, true, false, ◌&&◌}
 use mathlib.Core.List.{List, [], ◌∷◌}
-use Prim.Native.Nat.{ℕ, zero, suc, ◌+◌, ◌*◌, ◌-◌, ◌/◌, ◌%◌, ◌<◌, ◌≤◌}
+use Prim.Native.Nat.{ℕ, zero, suc, ◌+◌, ◌*◌, ◌%◌, ◌<◌, ◌≤◌}
 use native.Mathlib.Nat.{not-suc-le-zero, le_of_suc-le-suc}
 use native.Mathlib.Omega.{arith}
-use lib.ListN.{length, get_or, set}
-use lib.Dec.{eqb, ltb, leb}
-use borrow.Author.Tests.{lt-ltb, le-ltb, le-leb, ltb-true, ltb-false, leb-true}
+use lib.ListN.{length, get_or, set, length-set}
+use lib.Seq.{set_out}
+use Rattle.std.proofs.lemmas.List.{get_or_past}
+use lib.Dec.{eqb, ltb}
+use borrow.Author.Tests.{lt-ltb, ltb-true, ltb-false}
 use Rattle.laws.specs.Pick.{pick}
 use Rattle.laws.proofs.Pick.{yes, no}
 use Rattle.laws.proofs.Tests.{and_first, and_second, and_both}
 use Rattle.wire.specs.declared.Role.{Role}
 use Rattle.wire.specs.declared.Role.TheVariants as role
-use Rattle.wire.specs.Message.{is_client}
 use Rattle.state.specs.declared.Session.{Session}
 use Rattle.state.specs.declared.Connection.{Connection}
 use Rattle.state.specs.New.{blank}
 use Rattle.state.specs.declared.Stage.{Stage}
-use Rattle.state.specs.declared.Ping.{Ping}
 use Rattle.state.specs.With.{with_sessions, with_session, with_stage, with_ping, with_last}
 use Rattle.protocol.specs.Connection.{at, role_of, exchanged, far_number, session_formed, all_formed, well_formed}
-use Rattle.words.specs.Session.{endless_number, outcome_cases, phases_end, opening_from, phases_at, status_limit, words_fit, session_of, outbound_word, inbound_word, status_word}
+use Rattle.words.specs.Session.{endless_number, outcome_cases, phases_end, status_limit, words_fit, outbound_word, inbound_word, status_word}
 use Rattle.words.specs.State.{inbound_at, status_at, stage_at, last_at, ping_at, word_count, numbers16, stage_number, stage_of, ping_number, words_of, connection_of}
-use Rattle.words.proofs.Sessions.{by_test, same_test, formed_words}
+use Rattle.words.proofs.Sessions.{by_test, formed_words}
 use Rattle.words.proofs.States.{sessions_long, session_at_lem, last_fits, stage_small, own_small, last_word, canonical}
 use Rattle.words.proofs.Updates.{session_words, stage_words, last_words, ping_words}
 use Rattle.words_access.specs.Access.{session_read, session_at_words, session_set}
@@ -33,42 +34,6 @@ use Rattle.words_access.specs.Access.{session_read, session_at_words, session_se
 
 abbrev any_limit : ℕ
 any_limit = outcome_cases * phases_end
-
--- the tests of the definition are those of the code
-pub fit_tests : (a b s : ℕ) → (leb a endless_number && leb b endless_number && ltb s any_limit) ≡ words_fit a b s any_limit
-fit_tests a b s = rw (up_to a, up_to b)
-  where
-    up_to : (n : ℕ) → leb n endless_number ≡ ltb n (1 + endless_number)
-    up_to n =
-        same_test _ _
-        (λ t. lt-ltb n (1 + endless_number) (omega (arith, leb-true n endless_number t)))
-        (λ t. le-leb n endless_number (omega (arith, ltb-true n (1 + endless_number) t)))
-
-pub fit_parts : (a b s : ℕ) → words_fit a b s any_limit ≡ true → (a ≤ endless_number) × (b ≤ endless_number) × (s < any_limit)
-fit_parts a b s e =
-    let A = ltb a (1 + endless_number) in
-    let B = ltb b (1 + endless_number) in
-    let p = and_first (A && B) (ltb s any_limit) e in (
-      omega (arith, ltb-true a (1 + endless_number) (and_first A B p)),
-      omega (arith, ltb-true b (1 + endless_number) (and_second A B p)),
-      ltb-true s any_limit (and_second (A && B) (ltb s any_limit) e),
-    )
-
-set_length : {A : Type 0} (l : List A) (i : ℕ) (x : A) → length (set l i x) ≡ length l
-set_length [] i x = refl
-set_length (y ∷ l) zero x = refl
-set_length (y ∷ l) (suc i) x = ap suc (set_length l i x)
-
--- past the end nothing is read or set
-read_past : {A : Type 0} (l : List A) (i : ℕ) (d : A) → length l ≤ i → d ≡ get_or l i d
-read_past [] i d h = refl
-read_past (x ∷ l) zero d h = absurd (not-suc-le-zero h)
-read_past (x ∷ l) (suc i) d h = read_past l i d (le_of_suc-le-suc h)
-
-set_beyond : {A : Type 0} (l : List A) (i : ℕ) (x : A) → length l ≤ i → l ≡ set l i x
-set_beyond [] i x h = refl
-set_beyond (y ∷ l) zero x h = absurd (not-suc-le-zero h)
-set_beyond {A} (y ∷ l) (suc i) x h = ap (λ (t : List A). y ∷ t) (set_beyond l i x (le_of_suc-le-suc h))
 
 -- ---- a session is read
 
@@ -85,7 +50,7 @@ fit_more r up a b s e =
     let l = ltb-true s (status_limit r up) (and_second F (ltb s (status_limit r up)) e) in
     and_both (and_first F (ltb s (status_limit r up)) e) (lt-ltb s any_limit (omega (arith, limit_most r up)))
 
-each_formed : (r : Role) (up : Bool) (l : List Session) (i : ℕ) → all_formed r up l ≡ true → i < length l → session_formed r up (get_or l i blank) ≡ true
+pub each_formed : (r : Role) (up : Bool) (l : List Session) (i : ℕ) → all_formed r up l ≡ true → i < length l → session_formed r up (get_or l i blank) ≡ true
 unfolding all_formed
 each_formed r up [] i e h = absurd (not-suc-le-zero h)
 each_formed r up (x ∷ l) zero e h = and_first (session_formed r up x) (all_formed r up l) e
@@ -129,7 +94,7 @@ module _ (w : List ℕ) (long : length w ≡ word_count) (formed : well_formed (
   read_any n =
       by_test (ltb n 128)
       (λ t. read_is n (ltb-true n 128 t))
-      (λ f. no (ltb n 128) _ blank f ∙ read_past c.sessions n blank (omega (arith, ltb-false n 128 f, sessions_long w long)))
+      (λ f. no (ltb n 128) _ blank f ∙ sym (get_or_past c.sessions n blank (omega (arith, ltb-false n 128 f, sessions_long w long))))
 
   pub set_any : (n : ℕ) (x : Session) → session_set w n x ≡ words_of (with_session n x c)
   unfolding session_set
@@ -137,7 +102,7 @@ module _ (w : List ℕ) (long : length w ≡ word_count) (formed : well_formed (
       by_test (ltb n 128)
       (λ t. set_is n x (ltb-true n 128 t))
       (λ f. no (ltb n 128) _ w f ∙ sym (canonical w long formed)
-      ∙ ap (λ (l : List Session). words_of (with_sessions l c)) (set_beyond c.sessions n x (omega (arith, ltb-false n 128 f, sessions_long w long))))
+      ∙ ap (λ (l : List Session). words_of (with_sessions l c)) (sym (set_out c.sessions n x (omega (arith, ltb-false n 128 f, sessions_long w long)))))
 
   -- ---- the head is read and set
 
@@ -162,11 +127,11 @@ module _ (w : List ℕ) (long : length w ≡ word_count) (formed : well_formed (
   pub stage_is : (s : Stage) → set w stage_at (stage_number s) ≡ words_of (with_stage s c)
   stage_is s = ap (λ (l : List ℕ). set l stage_at (stage_number s)) (sym (canonical w long formed)) ∙ stage_words c (sessions_long w long) s
 
-  pub ping_is : (p : Ping) → set w ping_at (ping_number p) ≡ words_of (with_ping p c)
+  pub ping_is : (p : Option ℕ) → set w ping_at (ping_number p) ≡ words_of (with_ping p c)
   ping_is p = ap (λ (l : List ℕ). set l ping_at (ping_number p)) (sym (canonical w long formed)) ∙ ping_words c (sessions_long w long) p
 
   -- the session of a number is set, and the number is that served last
   pub served_is : (n : ℕ) (x : Session) → n < 128 → set (session_set w n x) last_at n ≡ words_of (with_last n (with_session n x c))
   served_is n x h =
       ap (λ (l : List ℕ). set l last_at n) (set_is n x h)
-      ∙ last_words (with_session n x c) (set_length c.sessions n x ∙ sessions_long w long) n
+      ∙ last_words (with_session n x c) (length-set c.sessions n x ∙ sessions_long w long) n

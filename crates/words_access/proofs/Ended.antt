@@ -2,7 +2,7 @@
 use mathlib.Core.Path.{◌≡◌, refl, sym, ap, ◌∙◌}
 use mathlib.Core.Bool.{true}
 use mathlib.Core.List.{List, [], ◌∷◌, ◌++◌, map, append_assoc}
-use Prim.Native.Nat.{ℕ, ◌+◌, ◌*◌, ◌/◌, ◌%◌}
+use Prim.Native.Nat.{ℕ, ◌+◌, ◌*◌, ◌/◌}
 use native.Mathlib.Omega.{arith}
 use lib.ListN.{length, set, take, drop, length-map, length-append}
 use lib.Seq.{take_at, drop_at}
@@ -11,8 +11,8 @@ use Rattle.state.specs.declared.Connection.{Connection}
 use Rattle.state.specs.New.{blank}
 use Rattle.state.specs.With.{with_sides, with_outcome, with_sessions}
 use Rattle.protocol.specs.Connection.{well_formed, Cause, shutdown_received, error_received, own_shutdown, line_lost, ending, ended}
-use Rattle.words.specs.Session.{outcome_cases, outcome_of, outcome_number, phase_of, phase_number, held_number, sides_in, held_in, outbound_word, inbound_word, status_word, session_of}
-use Rattle.words.specs.State.{inbound_at, status_at, head_at, over_at, word_count, head_words, words_of, zipped, sessions_of, connection_of}
+use Rattle.words.specs.Session.{outcome_cases, outcome_number, phase_of, phase_number, held_number, held_in, outbound_word, inbound_word, status_word, session_of}
+use Rattle.words.specs.State.{inbound_at, status_at, head_at, over_at, word_count, head_words, words_of, zipped, connection_of}
 use Rattle.words.proofs.Sessions.{held_number_lem, phase_number_lem}
 use Rattle.words.proofs.States.{first_long, second_long, third_long, sessions_long, canonical}
 use Rattle.words.proofs.Updates.{over_words}

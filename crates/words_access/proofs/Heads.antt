@@ -1,10 +1,10 @@
 -- What the word of a stage and the word of a ping say, whatever number it is: a test of the number decides as the stage or the ping does.
 use mathlib.Core.Path.{◌≡◌}
 use mathlib.Core.Bool.{not}
-use Prim.Native.Nat.{ℕ, ◌+◌, ◌-◌, ◌/◌, ◌<◌, ◌≤◌}
+use Prim.Native.Nat.{ℕ, ◌+◌, ◌-◌, ◌/◌}
 use native.Mathlib.Omega.{arith}
 use lib.Dec.{eqb, ltb, leb}
-use borrow.Author.Tests.{eq-eqb, ne_eqb, le-ltb, le-leb, lt-leb, ltb-true, ltb-false, eqb-true, eqb-false}
+use borrow.Author.Tests.{eq-eqb, ne_eqb, le-leb, lt-leb, ltb-true, ltb-false, eqb-true, eqb-false}
 use Rattle.laws.specs.Pick.{pick}
 use Rattle.protocol.specs.Connection.{exchanged, far_number}
 use Rattle.protocol.specs.Judge.{matches}
@@ -39,14 +39,13 @@ module _ (n : ℕ) where
       (λ t. rw t (by_test (eqb n 0) (λ e. rw e) (λ e. rw e)))
       (λ f. rw (f, ne_eqb n 0 (λ e. omega (arith, ltb-false n 2 f))) (by_test (eqb n 2) (λ t. rw t) (λ g. rw g)))
 
-  -- below 3 there is no far header
-  pub far_none : n < 3 → far_number (stage_of n) ≡ 0
+  -- what is above 3 is the far number with the role below it; below 3 there is no far header
+  pub far_word : far_number (stage_of n) ≡ (n - 3) / 2
   unfolding stage_of pick
-  far_none h = by_test (ltb n 2) (λ t. rw t) (λ f. rw (f, eq-eqb n 2 (omega (arith, ltb-false n 2 f))))
-
-  pub far_some : 3 ≤ n → far_number (stage_of n) ≡ (n - 3) / 2
-  unfolding stage_of pick
-  far_some h = rw (le-ltb n 2 (omega arith), ne_eqb n 2 (λ e. omega arith))
+  far_word =
+      by_test (ltb n 2)
+      (λ t. rw t (omega (arith, ltb-true n 2 t)))
+      (λ f. rw f (by_test (eqb n 2) (λ t. rw t (omega (arith, eqb-true n 2 t))) (λ g. rw g)))
 
 -- ---- the ping of a word
 

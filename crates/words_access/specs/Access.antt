@@ -1,12 +1,10 @@
 -- What is read and set in words, whatever they are: a session, and the end of a connection.
-use Rattle.std.specs.Prelude.{ℕ, ◌+◌, ◌*◌, ◌/◌, ◌%◌, List, ◌++◌, map, get_or, set, take, drop, eqb, ltb}
+use Rattle.std.specs.Prelude.{ℕ, ◌+◌, ◌*◌, ◌/◌, ◌%◌, List, ◌++◌, map, get_or, set, take, drop, eqb, ltb, Option, None}
 use Rattle.laws.specs.Pick.{pick}
 use Rattle.wire.specs.declared.Role.TheVariants as role
 use Rattle.state.specs.declared.Session.{Session}
 use Rattle.state.specs.declared.Stage.{Stage}
 use Rattle.state.specs.declared.Stage.TheVariants as stage
-use Rattle.state.specs.declared.Ping.{Ping}
-use Rattle.state.specs.declared.Ping.TheVariants as ping
 use Rattle.state.specs.declared.Head.{Head}
 use Rattle.state.specs.New.{blank}
 use Rattle.state.specs.With.{with_sides, with_outcome}
@@ -32,8 +30,8 @@ session_set w n x =
 unfoldable pub stage_read : ℕ → Stage
 stage_read n = pick (ltb n stage_cases) (stage_of n) (stage.Fresh role.Client)
 
-unfoldable pub ping_read : ℕ → Ping
-ping_read n = pick (ltb n ping_cases) (ping_in n) ping.None
+unfoldable pub ping_read : ℕ → Option ℕ
+ping_read n = pick (ltb n ping_cases) (ping_in n) None
 
 unfoldable pub head_read : List ℕ → Head
 head_read w =

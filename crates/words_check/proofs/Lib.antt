@@ -1,4 +1,3 @@
--- The laws of the marks, and of words that are those of a connection that is well formed.
-pub mod Marks
+-- The laws of words that are those of a connection that is well formed.
 pub mod Formed
 pub mod Waiting

@@ -1,18 +1,17 @@
 -- A call on words is the call of the rules on their connection; and a run on words stays with the run of the rules.
+use Rattle.std.specs.Prelude.{Option, Some, None}
 use mathlib.Core.Path.{◌≡◌, refl, sym, ap, ◌∙◌, subst}
 use mathlib.Core.Bool.{true}
 use mathlib.Core.List.{List, [], ◌∷◌}
-use Prim.Native.Nat.{ℕ, ◌+◌, ◌*◌, ◌<◌}
+use Prim.Native.Nat.{ℕ, ◌<◌}
 use native.Mathlib.Omega.{arith}
-use lib.ListN.{length, take}
+use lib.ListN.{take}
 use Rattle.laws.specs.Result.{Result, ok, refused, violation}
 use Rattle.laws.specs.Runs as runs
 use Rattle.wire.specs.declared.Role.{Role}
 use Rattle.wire.specs.declared.Role.TheVariants as role
 use Rattle.state.specs.declared.Stage.{Stage}
 use Rattle.state.specs.declared.Stage.TheVariants as stage
-use Rattle.state.specs.declared.Ping.{Ping}
-use Rattle.state.specs.declared.Ping.TheVariants as ping
 use Rattle.state.specs.declared.Setup.{Setup}
 use Rattle.protocol.specs.Message.{no_operation_of, shutdown_of, error_of, ping_of, ping_ack_of, Scope, whole, of_session, scope}
 use Rattle.protocol.specs.Connection.{far_number, well_formed}
@@ -117,9 +116,9 @@ stage_typed (stage.Fresh r) h = omega (arith, role_small r)
 stage_typed stage.Started h = omega arith
 stage_typed (stage.Up r far) h = omega (arith, role_small r)
 
-ping_typed : (p : Ping) → SmallPing (pinging_of p) → ping_number p < ping_cases
-ping_typed ping.None h = omega arith
-ping_typed (ping.Outstanding k) h = omega arith
+ping_typed : (p : Option ℕ) → SmallPing (pinging_of p) → ping_number p < ping_cases
+ping_typed None h = omega arith
+ping_typed (Some k) h = omega arith
 
 -- ---- a run on words stays with the run of the rules
 

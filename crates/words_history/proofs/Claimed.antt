@@ -3,10 +3,8 @@ use mathlib.Core.Path.{◌≡◌, refl, sym, ap, ◌∙◌}
 use mathlib.Core.List.{List}
 use Prim.Native.Nat.{ℕ}
 use lib.ListN.{length}
-use Rattle.laws.specs.Result.{Result, refused}
 use Rattle.state.specs.declared.Setup.{Setup}
-use Rattle.protocol.specs.Judge.{Report}
-use Rattle.history.specs.Log.{Call, State, called, Proper, made, next, out}
+use Rattle.history.specs.Log.{Call, State, Proper, made, next, out}
 use Rattle.history.proofs.Simulation.{made_ok}
 use Rattle.history.proofs.Never.{refuses_14}
 use Rattle.history.proofs.Leaves.{refused_leaves}

@@ -1,24 +1,18 @@
-use Rattle.std.proofs.Common.{◌≡◌, ℕ, ◌+◌, sym, ap, ◌∙◌, arith, eq-eqb, ne_eqb}
-use Rattle.byte_slices.specs.Bytes.{index_of, slice}
-use Rattle.byte_slices.proofs.Search.{here, behind, none}
+use Rattle.std.proofs.Common.{◌≡◌, ℕ, ◌+◌, ◌-◌, length, take, drop, sym, ap, ◌∙◌, arith, length-take, length-drop}
+use Rattle.byte_slices.specs.Bytes.{index_of}
+use Rattle.byte_slices.proofs.Search.{found, missed, part_is}
 use Rattle.byte_slices.proofs.find.Goals as goal
 
-pub returns-then-s-i-clause-place : goal.returns-then-s-i-clause-place
-returns-then-s-i-clause-place c =
-    sym (here c.args.value c.loop-i.i c.args.to c.args.s.now c.loop-i-test.true c.requires.high (eq-eqb _ _ c.if-s-i.true))
-    ∙ c.loop-i.invariant.place
+pub returns-in-Some-clause-place : goal.returns-in-Some-clause-place
+returns-in-Some-clause-place c =
+    let a = c.args in
+    ap (λ (n : ℕ). a.from + n) (sym (found a.value _ _ c.in-Some.ensures)
+    ∙ ap (index_of a.value) (part_is a.from a.to a.s.now c.requires.low))
 
-pub loop-i-preserved : goal.loop-i-preserved
-loop-i-preserved c = record {
-  inside = omega arith;
-  place =
-      behind c.args.value c.loop-i.i c.args.to c.args.s.now c.loop-i-test.true c.requires.high (ne_eqb _ _ c.if-s-i.false)
-      ∙ c.loop-i.invariant.place;
-}
-
-pub returns-clause-place : goal.returns-clause-place
-returns-clause-place c =
-    let i : c.loop-i.i ≡ c.args.to = omega (arith, c.loop-i.invariant.inside) in
-    sym (none c.args.value c.args.to c.args.s.now c.requires.high)
-    ∙ ap (λ (n : ℕ). n + index_of c.args.value (slice n c.args.to c.args.s.now)) (sym i)
-    ∙ c.loop-i.invariant.place
+pub returns-in-None-clause-place : goal.returns-in-None-clause-place
+returns-in-None-clause-place c =
+    let a = c.args in
+    let l : length (take (a.to - a.from) (drop a.from a.s.now)) ≡ a.to - a.from = length-take _ _ ∙ omega (arith, length-drop a.from a.s.now) in
+    let e : a.to ≡ a.from + (a.to - a.from) = omega arith in
+    e ∙ ap (λ (n : ℕ). a.from + n) (sym (missed a.value _ c.in-None.ensures ∙ l)
+    ∙ ap (index_of a.value) (part_is a.from a.to a.s.now c.requires.low))

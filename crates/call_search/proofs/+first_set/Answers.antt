@@ -23,14 +23,14 @@ returns-then-count-eq1 t c =
     let test = is_set a.flags.now in
     sym (ap (first_found test a.from) c.if-count-eq1.true ∙ first_one test a.from ∙ no _ _ _ (via c.is_set.ensures c.if-is_set.false))
 
-pub returns-in-At : goal.returns-in-At
-returns-in-At t c =
+pub returns-in-Some : goal.returns-in-Some
+returns-in-Some t c =
     let a = c.args in
     let lower = c.first_set-lower.ensures in
-    lower ∙ or_at _ _ _ (sym lower ∙ c.in-At.is) ∙ first_halves (is_set a.flags.now) a.from a.count
+    lower ∙ or_at _ _ _ (sym lower ∙ c.in-Some.is) ∙ first_halves (is_set a.flags.now) a.from a.count
 
-pub returns-in-Nothing : goal.returns-in-Nothing
-returns-in-Nothing t c =
+pub returns-in-None : goal.returns-in-None
+returns-in-None t c =
     let a = c.args in
     let lower = c.first_set-lower.ensures in
-    c.first_set.ensures ∙ or_nothing _ _ (sym lower ∙ c.in-Nothing.is) ∙ first_halves (is_set a.flags.now) a.from a.count
+    c.first_set.ensures ∙ or_nothing _ _ (sym lower ∙ c.in-None.is) ∙ first_halves (is_set a.flags.now) a.from a.count

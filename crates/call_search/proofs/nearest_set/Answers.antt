@@ -13,18 +13,18 @@ pub first_set-requires : goal.first_set-requires
 first_set-requires c =
     omega (arith, c.following-start.ensures, following_lt c.args.last)
 
-pub returns-in-At : goal.returns-in-At
-returns-in-At c =
+pub returns-in-Some : goal.returns-in-Some
+returns-in-Some c =
     let a = c.args in
     let after = c.first_set-after.ensures in
-    after ∙ or_at _ _ _ (sym after ∙ c.in-At.is)
+    after ∙ or_at _ _ _ (sym after ∙ c.in-Some.is)
     ∙ two_ranges (is_set a.flags.now) a.last _ (sym c.following-start.ensures)
 
-pub returns-in-Nothing : goal.returns-in-Nothing
-returns-in-Nothing c =
+pub returns-in-None : goal.returns-in-None
+returns-in-None c =
     let a = c.args in
     let after = c.first_set-after.ensures in
-    c.first_set.ensures ∙ or_nothing _ _ (sym after ∙ c.in-Nothing.is)
+    c.first_set.ensures ∙ or_nothing _ _ (sym after ∙ c.in-None.is)
     ∙ two_ranges (is_set a.flags.now) a.last _ (sym c.following-start.ensures)
 
 pub overflow_sub-start : goal.overflow_sub-start

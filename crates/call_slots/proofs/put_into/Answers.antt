@@ -16,10 +16,11 @@ slice_bounds-put_behind-end c =
 pub put_behind-requires : goal.put_behind-requires
 put_behind-requires c =
     let a = c.args in
-    let s = servable_has (length a.queue.now) a.n a.waiting (via c.is_servable.ensures.value c.if-is_servable.true) in (
-      ap length (slot_part a.n a.queue.now c.slot_start-start.ensures) ∙ slot_length a.n a.queue.now s.number s.whole,
-      omega (arith, s.within, c.if-src-waiting.true),
-    )
+    let s = servable_has (length a.queue.now) a.n a.waiting (via c.is_servable.ensures.value c.if-is_servable.true) in
+    record {
+      whole = ap length (slot_part a.n a.queue.now c.slot_start-start.ensures) ∙ slot_length a.n a.queue.now s.number s.whole;
+      fits = omega (arith, s.within, c.if-src-waiting.true);
+    }
 
 pub returns-then-src-waiting : goal.returns-then-src-waiting
 returns-then-src-waiting c =

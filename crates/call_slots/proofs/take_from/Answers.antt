@@ -17,7 +17,11 @@ pub take_first-requires : goal.take_first-requires
 take_first-requires c =
     let a = c.args in
     let s = servable_has (length a.queue.now) a.n a.waiting (via c.is_servable.ensures.value c.if-is_servable.true) in
-    (ap length (slot_part a.n a.queue.now c.slot_start-start.ensures) ∙ slot_length a.n a.queue.now s.number s.whole, s.within, c.if-count-waiting.true)
+    record {
+      whole = ap length (slot_part a.n a.queue.now c.slot_start-start.ensures) ∙ slot_length a.n a.queue.now s.number s.whole;
+      within = s.within;
+      enough = c.if-count-waiting.true;
+    }
 
 pub returns-then-count-waiting : goal.returns-then-count-waiting
 returns-then-count-waiting c =

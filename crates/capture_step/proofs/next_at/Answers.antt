@@ -1,22 +1,26 @@
--- `next_at` meets its contract, by the laws of a step.
-use mathlib.Core.Path.{◌∙◌}
-use Prim.Native.Nat.{ℕ, ◌≤◌, ◌<◌, ◌^◌}
-use native.Mathlib.Omega.{arith}
-use borrow.Author.Rules.{rules}
-use Rattle.capture_rules.proofs.Steps.{past_end, stepped}
-use Rattle.capture_step.proofs.Sizes.{ends_within, sized_step}
+-- `next_at` meets its contract, by the place after what was read.
+use Rattle.std.proofs.Common.{ℕ, ◌≤◌, ◌<◌, ◌^◌, Err, sym, ap, ◌∙◌, rules, arith}
+use Rattle.laws.specs.Result.{Result}
+use Rattle.wire.specs.declared.Message.{Message}
+use Rattle.capture_rules.specs.Place.{next_as}
+use Rattle.capture_rules.proofs.Steps.{stepped}
+use Rattle.capture_step.proofs.Sizes.{ends_within, sized_step, not_past, stays}
 use Rattle.capture_step.proofs.next_at.Goals as goal
 
 below : {m n : ℕ} → m ≤ n → n < 2 ^ 64 → m < 2 ^ 64
 below p q = omega arith
 
-pub returns-then-capture-place : goal.returns-then-capture-place
-returns-then-capture-place c = c.past_the_end.ensures ∙ stepped _ _ _ (past_end _ _ _ c.if-capture-place.true)
-
-pub returns : goal.returns
-returns c = c.step_of.ensures ∙ sized_step _ _ _ c.if-capture-place.false c.read_sized.ensures
-
-pub step_of-requires : goal.step_of-requires
-step_of-requires c =
+pub overflow_add-result : goal.overflow_add-result
+overflow_add-result c =
     let a = c.args in
-    below (ends_within a.from a.capture.now a.place c.if-capture-place.false c.read_sized.ensures) (search rules)
+    let here = not_past a.from a.capture.now a.place (ap (λ (p : Result Message × ℕ). p.0) c.in-Ok.ensures) in
+    record { fits = below (ends_within a.from a.capture.now a.place here c.in-Ok.ensures) (search rules) }
+
+pub returns-in-Ok : goal.returns-in-Ok
+returns-in-Ok c = sized_step _ _ _ c.in-Ok.ensures
+
+pub returns-in-Err : goal.returns-in-Err
+returns-in-Err c =
+    let a = c.args in
+    ap (λ (k : ℕ). (next_as (Err c.in-Err.failure), k)) (sym (stays a.place c.in-Err.failure))
+    ∙ stepped _ _ _ (ap (λ (p : Result Message × ℕ). p.0) c.in-Err.ensures)

@@ -5,4 +5,4 @@ use Rattle.journal_keep.proofs.keep_some.Goals as goal
 
 pub returns : goal.returns
 unfolding keep_all
-returns c = ap seen_of c.keep_table-work.ensures
+returns c = ap seen_of c.keep_table.ensures

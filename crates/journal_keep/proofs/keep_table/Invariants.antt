@@ -1,6 +1,6 @@
 -- `keep_table` meets its contract. The loop's invariant: the numbers that are left, done on the work so far, give what all numbers give.
 use mathlib.Core.Path.{◌≡◌}
-use Prim.Native.Nat.{◌-◌, ◌≤◌}
+use Prim.Native.Nat.{◌-◌}
 use lib.ListN.{length}
 use Rattle.protocol.specs.Result.{answer_as}
 use Rattle.journal_history.specs.Due.{has_open}
@@ -10,9 +10,10 @@ use Rattle.journal_keep.proofs.keep_table.Given as goal
 
 abbrev pub invariant-loop-n : goal.invariant-loop-n
 invariant-loop-n l =
-    (l.n ≤ 128) × (length l.region ≡ length l.initial.region) × (length l.table ≡ 128) × (l.open ≡ has_open l.written)
-    × (keep_numbers l.table (answer_as l.answer) l.written (128 - l.n) l.n (work_as l.work l.region)
-    ≡ keep_numbers l.table (answer_as l.answer) l.written 128 0 (work_as l.initial.work l.initial.region))
-
-abbrev pub decreases-loop-n : goal.decreases-loop-n
-decreases-loop-n l = 128 - l.n
+    record {
+      sized : length l.region ≡ length l.initial.region;
+      table : length l.table ≡ 128;
+      opens : l.open ≡ has_open l.written;
+      onward : keep_numbers l.table (answer_as l.answer) l.written (128 - l.n) l.n (work_as l.work l.region)
+          ≡ keep_numbers l.table (answer_as l.answer) l.written 128 0 (work_as l.initial.work l.initial.region);
+    }

@@ -1,21 +1,20 @@
--- `list` meets its contract: a region of another size is refused, and of any other it gives the starts before the first bad block.
-use mathlib.Core.Path.{sym, ap, ◌∙◌}
-use Rattle.journal_region.specs.Search.{search_as}
-use Rattle.journal_region.proofs.Found.{tells_wrong, tells_bad, tells_good}
-use Rattle.journal_read.proofs.Standing.{list_refused}
+-- `list` meets its contract: a region that cannot be read is refused, and of any other it gives the starts among its entries.
+use mathlib.Core.Path.{ap, ◌∙◌}
+use mathlib.Core.List.{List, map}
+use Rattle.std.proofs.lemmas.Result.{err_from_is_err_and}
+use Rattle.laws.specs.Result.{ok}
+use Rattle.journal_rules.specs.Listing.{not_to_retry}
+use Rattle.journal_read.specs.declared.Entry.{Entry}
+use Rattle.journal_read.specs.Answers.{entry_as}
+use Rattle.journal_read.proofs.Steps.{listed, not_listed}
 use Rattle.journal_read.proofs.list.Goals as goal
 
-pub list_before-requires : goal.list_before-requires
-list_before-requires c =
-    let t = tells_bad c.args.region.now _ (ap search_as (sym c.in-BadAt.is) ∙ c.search_region-found.ensures) in
-    (t.is_sized_lem, t.place)
+pub returns-in_err-entries : goal.returns-in_err-entries
+returns-in_err-entries c =
+    let p = err_from_is_err_and c.from_residual.result c.from_residual.ensures.1 in
+    rw (p.1, p.2) (not_listed c.args.region.now _ c.in_err-entries.ensures)
 
-pub list_before-requires-in-AllGood : goal.list_before-requires-in-AllGood
-list_before-requires-in-AllGood c =
-    let t = tells_good c.args.region.now _ (ap search_as (sym c.in-AllGood.is) ∙ c.search_region-found.ensures) in
-    (t.is_sized_lem, t.place)
-
-pub returns-in-WrongSize : goal.returns-in-WrongSize
-returns-in-WrongSize c =
-    let r = c.args.region.now in
-    list_refused r (tells_wrong r (ap search_as (sym c.in-WrongSize.is) ∙ c.search_region-found.ensures))
+pub returns : goal.returns
+returns c =
+    ap ok (c.open_starts.ensures ∙ ap (λ (es : List Entry). not_to_retry 0 (map entry_as es)) c.as_slice.ensures.value)
+    ∙ listed c.args.region.now _ c.in_ok-entries.ensures

@@ -5,9 +5,9 @@ use lib.ListN.{length}
 use Rattle.journal_rules.specs.Region.{first_bad_from}
 use Rattle.journal_region.proofs.search_blocks.Given as goal
 
-abbrev pub invariant-loop-k : goal.invariant-loop-k
-invariant-loop-k l =
-    (l.k ≤ l.blocks) × (l.blocks ≤ 128) × (512 * l.blocks ≤ length l.region) × (first_bad_from (l.blocks - l.k) l.k l.region ≡ first_bad_from l.blocks 0 l.region)
-
-abbrev pub decreases-loop-k : goal.decreases-loop-k
-decreases-loop-k l = l.blocks - l.k
+abbrev pub invariant-loop-place : goal.invariant-loop-place
+invariant-loop-place l =
+    record {
+      inside : 512 * l.blocks ≤ length l.region;
+      onward : first_bad_from (l.blocks - l.place) l.place l.region ≡ first_bad_from l.blocks 0 l.region;
+    }

@@ -1,43 +1,34 @@
 -- `repair_some` meets its contract: a region of another size is refused, none is bad, or zeros are written at the first bad block.
-use mathlib.Core.Path.{refl, sym, ap, ◌∙◌}
-use native.Mathlib.Omega.{arith}
-use Rattle.journal_region.specs.Search.{search_as}
-use Rattle.journal_region.proofs.Found.{tells_wrong, tells_bad, tells_good}
-use Rattle.journal_store.proofs.Calls.{has_room_lem, repair_8, repair_none, repair_whole, repair_cut}
+use mathlib.Core.Path.{sym, ap, ◌∙◌}
+use Rattle.std.specs.Prelude.{Ok}
+use Rattle.std.proofs.lemmas.Result.{err_from_is_err_and}
+use Rattle.journal_region.proofs.Found.{tells_wrong, tells_bad}
+use Rattle.journal_store.proofs.Calls.{has_room_lem, none_left, repair_8, repair_none, repair_done}
 use Rattle.journal_store.proofs.repair_some.Goals as goal
 
-pub overflow_add-serial : goal.overflow_add-serial
-overflow_add-serial c =
-    let a = c.args in
-    let t = tells_bad a.region.now _ (ap search_as (sym c.in-BadAt.is) ∙ c.search_region-found.ensures) in
-    omega (arith, (has_room_lem _ _ t).place)
+pub returns-in_err-place : goal.returns-in_err-place
+returns-in_err-place c =
+    let r = c.args.region.now in
+    let p = err_from_is_err_and c.from_residual.result c.from_residual.ensures.1 in
+    let t = tells_wrong r _ c.in_err-place.ensures in
+    rw (p.1, p.2, t.why) (repair_8 r c.args.stores t.not_sized)
 
-pub write_block-requires : goal.write_block-requires
-write_block-requires c =
-    let a = c.args in
-    let t = tells_bad a.region.now _ (ap search_as (sym c.in-BadAt.is) ∙ c.search_region-found.ensures) in
-    (refl, (has_room_lem _ _ t).block)
+pub returns-in_default : goal.returns-in_default
+returns-in_default c =
+    let r = c.args.region.now in
+    let n = none_left r _ c.in_ok-place.ensures c.in_default.not-BadAt in
+    repair_none r c.args.stores n.0 n.1
 
-pub returns-then-stores-lt512 : goal.returns-then-stores-lt512
-returns-then-stores-lt512 c =
-    let a = c.args in
-    let t = tells_bad a.region.now _ (ap search_as (sym c.in-BadAt.is) ∙ c.search_region-found.ensures) in
-    repair_cut a.region.now _ t a.stores _ c.write_block.ensures c.if-stores-lt512.true
+pub write_block-requires-clause-low : goal.write_block-requires-clause-low
+write_block-requires-clause-low c =
+    (has_room_lem _ _ (tells_bad c.args.region.now _ (ap Ok (sym c.in-BadAt.is) ∙ c.in_ok-place.ensures))).place
 
-pub returns-in-WrongSize : goal.returns-in-WrongSize
-returns-in-WrongSize c =
-    let a = c.args in
-    let is = ap search_as (sym c.in-WrongSize.is) ∙ c.search_region-found.ensures in
-    repair_8 a.region.now a.stores (tells_wrong a.region.now is)
+pub write_block-requires-clause-room : goal.write_block-requires-clause-room
+write_block-requires-clause-room c =
+    (has_room_lem _ _ (tells_bad c.args.region.now _ (ap Ok (sym c.in-BadAt.is) ∙ c.in_ok-place.ensures))).block
 
-pub returns-in-AllGood : goal.returns-in-AllGood
-returns-in-AllGood c =
-    let a = c.args in
-    let t = tells_good a.region.now _ (ap search_as (sym c.in-AllGood.is) ∙ c.search_region-found.ensures) in
-    repair_none a.region.now a.stores t.is_sized_lem t.is_full
-
-pub returns-else-stores-lt512 : goal.returns-else-stores-lt512
-returns-else-stores-lt512 c =
-    let a = c.args in
-    let t = tells_bad a.region.now _ (ap search_as (sym c.in-BadAt.is) ∙ c.search_region-found.ensures) in
-    repair_whole a.region.now _ t a.stores _ c.write_block.ensures c.if-stores-lt512.false
+pub returns : goal.returns
+returns c =
+    let r = c.args.region.now in
+    let t = tells_bad r _ (ap Ok (sym c.in-BadAt.is) ∙ c.in_ok-place.ensures) in
+    repair_done r _ t c.args.stores _ c.write_block.ensures.bytes _ c.write_block.ensures.answer

@@ -1,69 +1,51 @@
 -- `store_some` meets its contract: what refuses it in its order, or the entry's block, written at the first bad one whole or cut.
 use mathlib.Core.Path.{sym, ap, ◌∙◌}
-use native.Mathlib.Omega.{arith}
-use lib.ListN.{length}
-use Rattle.journal_rules.specs.Block.{journal_entry}
-use Rattle.journal_rules.proofs.Blocks.{length_block}
-use Rattle.journal_region.specs.Search.{search_as}
-use Rattle.journal_region.proofs.Found.{tells_bad}
-use Rattle.journal_store.proofs.Calls.{wrong_sized, well_sized, none_left, has_room_lem, store_8, store_3, store_12, store_16, store_whole, store_cut}
+use Prim.Native.Nat.{ℕ, ◌+◌}
+use Rattle.std.specs.Prelude.{Ok}
+use Rattle.std.proofs.lemmas.Result.{err_from_is_err_and}
+use Rattle.journal_rules.specs.Block.{journal_entry, block_of}
+use Rattle.journal_region.proofs.Found.{tells_wrong, tells_bad, found_sized}
+use Rattle.journal_store.proofs.Calls.{has_room_lem, none_left, store_8, store_3, store_12, store_16, store_done}
 use Rattle.journal_store.proofs.store_some.Goals as goal
 
-pub returns-then-not-sized : goal.returns-then-not-sized
-returns-then-not-sized c =
+pub returns-in_err-found : goal.returns-in_err-found
+returns-in_err-found c =
     let a = c.args in
-    let wrong = sym c.is_sized-sized.ensures ∙ c.if-not-sized.true in
-    store_8 a.region.now (journal_entry a.number a.kind) a.stores
-    (wrong_sized a.region.now c.search_region-found.result c.search_region-found.ensures wrong)
+    let p = err_from_is_err_and c.from_residual.result c.from_residual.ensures.1 in
+    let t = tells_wrong a.region.now _ c.in_err-found.ensures in
+    rw (p.1, p.2, t.why) (store_8 a.region.now (journal_entry a.number a.kind) a.stores t.not_sized)
 
 pub returns-then-number-gt127 : goal.returns-then-number-gt127
 returns-then-number-gt127 c =
     let a = c.args in
-    let right = sym c.is_sized-sized.ensures ∙ c.if-not-sized.false in
-    store_3 a.region.now (journal_entry a.number a.kind) a.stores
-    (well_sized a.region.now c.search_region-found.result c.search_region-found.ensures right)
-    c.if-number-gt127.true
+    let sized = found_sized a.region.now _ c.in_ok-found.ensures in
+    store_3 a.region.now (journal_entry a.number a.kind) a.stores sized c.if-number-gt127.true
 
 pub returns-then-kind-gt3 : goal.returns-then-kind-gt3
 returns-then-kind-gt3 c =
     let a = c.args in
-    let right = sym c.is_sized-sized.ensures ∙ c.if-not-sized.false in
-    store_12 a.region.now (journal_entry a.number a.kind) a.stores
-    (well_sized a.region.now c.search_region-found.result c.search_region-found.ensures right)
-    c.if-number-gt127.false c.if-kind-gt3.true
+    let sized = found_sized a.region.now _ c.in_ok-found.ensures in
+    store_12 a.region.now (journal_entry a.number a.kind) a.stores sized c.if-number-gt127.false c.if-kind-gt3.true
 
 pub returns-in_default : goal.returns-in_default
 returns-in_default c =
     let a = c.args in
-    let right = sym c.is_sized-sized.ensures ∙ c.if-not-sized.false in
-    let s = c.search_region-found.result in
-    let is = c.search_region-found.ensures in
-    store_16 a.region.now (journal_entry a.number a.kind) a.stores (well_sized a.region.now s is right)
-    c.if-number-gt127.false c.if-kind-gt3.false
-    (none_left a.region.now s is right c.in_default.not-BadAt)
+    let n = none_left a.region.now _ c.in_ok-found.ensures c.in_default.not-BadAt in
+    store_16 a.region.now (journal_entry a.number a.kind) a.stores n.0 c.if-number-gt127.false c.if-kind-gt3.false n.1
 
-pub overflow_add-serial : goal.overflow_add-serial
-overflow_add-serial c =
-    let a = c.args in
-    let t = tells_bad a.region.now _ (ap search_as (sym c.in-BadAt.is) ∙ c.search_region-found.ensures) in
-    omega (arith, (has_room_lem _ _ t).place)
+pub write_block-requires-clause-low : goal.write_block-requires-clause-low
+write_block-requires-clause-low c =
+    (has_room_lem _ _ (tells_bad c.args.region.now _ (ap Ok (sym c.in-BadAt.is) ∙ c.in_ok-found.ensures))).place
 
-pub write_block-requires : goal.write_block-requires
-write_block-requires c =
-    let a = c.args in
-    let t = tells_bad a.region.now _ (ap search_as (sym c.in-BadAt.is) ∙ c.search_region-found.ensures) in
-    (ap length c.block_of-block.ensures ∙ length_block _ _, (has_room_lem _ _ t).block)
-
-pub returns-then-stores-lt512 : goal.returns-then-stores-lt512
-returns-then-stores-lt512 c =
-    let a = c.args in
-    let t = tells_bad a.region.now _ (ap search_as (sym c.in-BadAt.is) ∙ c.search_region-found.ensures) in
-    store_cut a.region.now _ t (journal_entry a.number a.kind) c.if-number-gt127.false c.if-kind-gt3.false a.stores _ _
-    c.block_of-block.ensures c.write_block.ensures c.if-stores-lt512.true
+pub write_block-requires-clause-room : goal.write_block-requires-clause-room
+write_block-requires-clause-room c =
+    (has_room_lem _ _ (tells_bad c.args.region.now _ (ap Ok (sym c.in-BadAt.is) ∙ c.in_ok-found.ensures))).block
 
 pub returns : goal.returns
 returns c =
     let a = c.args in
-    let t = tells_bad a.region.now _ (ap search_as (sym c.in-BadAt.is) ∙ c.search_region-found.ensures) in
-    store_whole a.region.now _ t (journal_entry a.number a.kind) c.if-number-gt127.false c.if-kind-gt3.false a.stores _ _
-    c.block_of-block.ensures c.write_block.ensures c.if-stores-lt512.false
+    let e = journal_entry a.number a.kind in
+    let t = tells_bad a.region.now _ (ap Ok (sym c.in-BadAt.is) ∙ c.in_ok-found.ensures) in
+    let made = c.block_of-block.ensures ∙ ap (λ (n : ℕ). block_of (n + 1) e) c.from-serial.ensures in
+    store_done a.region.now _ t e c.if-number-gt127.false c.if-kind-gt3.false a.stores _ _ made c.write_block.ensures.bytes _
+    c.write_block.ensures.answer

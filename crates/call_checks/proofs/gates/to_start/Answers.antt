@@ -1,12 +1,18 @@
 -- `to_start` meets its contract: one check more than `is_running`.
-use mathlib.Core.Path.{refl}
-use lib.Dec.{ltb}
-use Rattle.protocol.specs.Plan.{take}
+use Rattle.std.specs.Prelude.{ltb}
+use Rattle.std.proofs.lemmas.Result.{err_from_is_err_and}
+use Rattle.protocol.specs.Plan.{check, take}
 use Rattle.protocol.specs.Call.{running}
-use Rattle.call_checks.proofs.Checks.{one_more}
+use Rattle.call_checks.proofs.Checks.{go_on, stop_here}
 use Rattle.call_checks.proofs.gates.to_start.Goals as goal
+
+pub returns-in_err-is_running : goal.returns-in_err-is_running
+returns-in_err-is_running c =
+    let a = c.args in
+    let p = err_from_is_err_and c.from_residual.result c.from_residual.ensures.1 in
+    rw (p.1, p.2) (stop_here (running a.c (take tt)) (check (ltb a.room 8) 8 (take tt)) c.in_err-is_running.ensures)
 
 pub returns : goal.returns
 returns c =
     let a = c.args in
-    one_more (running a.c (take tt)) (ltb a.room 8) 8 c.further.ensures refl c.is_running.ensures
+    go_on (running a.c (take tt)) (check (ltb a.room 8) 8 (take tt)) c.in_ok-is_running.ensures c.refuse_if.ensures

@@ -10,19 +10,19 @@ use Rattle.call_checks.proofs.Calls.{passed, stopped, taken, none}
 use Rattle.connection.proofs.Effects.{sets_end}
 use Rattle.call_connection.proofs.ending.lost_line.Goals as goal
 
-pub returns-in-Passed : goal.returns-in-Passed
+pub returns-in-Ok : goal.returns-in-Ok
 unfolding lost_call lost_rule settle
-returns-in-Passed c =
+returns-in-Ok c =
     let x = c.args.c in
     let e = ends_by x line_lost done [] in
     c.done.ensures
     ∙ taken x e refl (c.ended.ensures ∙ sets_end x done [] line_lost) none
-    ∙ ap (given x []) (passed (running x (take tt)) c.is_running-gate.ensures (take e) c.in-Passed.is)
+    ∙ ap (given x []) (passed (running x (take tt)) (take e) c.in-Ok.ensures)
 
-pub returns-in-Refused : goal.returns-in-Refused
+pub returns-in-Err : goal.returns-in-Err
 unfolding lost_call lost_rule settle
-returns-in-Refused c =
+returns-in-Err c =
     let x = c.args.c in
     c.refused.ensures
     ∙ ap (given x [])
-    (stopped (running x (take tt)) c.is_running-gate.ensures (take (ends_by x line_lost done [])) c.in-Refused.is)
+    (stopped (running x (take tt)) (take (ends_by x line_lost done [])) c.in-Err.ensures)

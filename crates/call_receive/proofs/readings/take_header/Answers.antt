@@ -2,13 +2,7 @@
 use Rattle.call_receive.proofs.Rules.{header_taken_lem}
 use Rattle.call_receive.proofs.readings.take_header.Goals as goal
 
-pub returns-in-Number : goal.returns-in-Number
-returns-in-Number c =
+pub returns-in-Ok : goal.returns-in-Ok
+returns-in-Ok c =
     let a = c.args in
-    header_taken_lem a.c a.role c.in-Number.is c.with_stage-next.ensures c.answering-reply.ensures
-
-pub returns-in-Incomplete : goal.returns-in-Incomplete
-returns-in-Incomplete c = rw c.in-Incomplete.is c.incomplete.ensures
-
-pub returns-in-Violated : goal.returns-in-Violated
-returns-in-Violated c = rw c.in-Violated.is c.violated.ensures
+    header_taken_lem a.c a.role c.in-Ok.is c.with_stage.ensures c.answering.ensures

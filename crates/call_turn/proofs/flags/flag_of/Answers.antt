@@ -1,13 +1,16 @@
--- `flag_of` meets its contract: the test picks the case.
-use mathlib.Core.Path.{sym}
-use Rattle.laws.proofs.Pick.{yes, no, via}
+-- `flag_of` meets its contract: a test that holds is 1.
+use Rattle.std.specs.Prelude.{◌≡◌, Bool, true, false}
+use mathlib.Core.Path.{refl, ap, ◌∙◌}
+use mir.Val.{bool_byte}
+use Rattle.laws.specs.Pick.{pick}
 use Rattle.call_turn.specs.Ready.{flag_of}
 use Rattle.call_turn.proofs.flags.flag_of.Goals as goal
 
-pub returns-then-ready : goal.returns-then-ready
-unfolding flag_of
-returns-then-ready c = sym (yes _ _ _ (via c.ready.ensures c.if-ready.true))
+byte_is : (b : Bool) → bool_byte b ≡ pick b 1 0
+unfolding pick
+byte_is true = refl
+byte_is false = refl
 
 pub returns : goal.returns
 unfolding flag_of
-returns c = sym (no _ _ _ (via c.ready.ensures c.if-ready.false))
+returns c = c.from.ensures ∙ ap bool_byte c.ready.ensures ∙ byte_is _

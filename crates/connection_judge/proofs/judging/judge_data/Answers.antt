@@ -7,5 +7,5 @@ pub returns : goal.returns
 returns c =
     let a = c.args in
     λ ack.
-    stepped a.c a.m a.session (data_of a.length a.opens a.close a.eof ack) c.role_of-role.ensures c.own_start.ensures
+    stepped a.c a.m a.session (data_of a.received.length a.received.opens a.received.close a.received.eof ack) c.role_of.ensures c.own_start.ensures
     c.far_start.ensures c.session_at-x.ensures (c.receive_data-receipt.ensures ack) c.judge_receipt.ensures

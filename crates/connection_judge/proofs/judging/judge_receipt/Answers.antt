@@ -6,13 +6,13 @@ use Rattle.connection_judge.specs.Verdict.{verdict}
 use Rattle.connection_judge.proofs.Judgments.{step_taken}
 use Rattle.connection_judge.proofs.judging.judge_receipt.Goals as goal
 
-pub returns-in-Taken : goal.returns-in-Taken
-returns-in-Taken c =
+pub returns-in-Ok : goal.returns-in-Ok
+returns-in-Ok c =
     let a = c.args in
-    step_taken a.c a.m a.n c.in-Taken.is
-    c.with_session.ensures c.of_session.ensures c.taken.ensures
+    step_taken a.c a.m a.n c.in-Ok.is
+    c.with_session.ensures c.of_session-reply.ensures c.taken.ensures
 
-pub returns-in-Violated : goal.returns-in-Violated
-returns-in-Violated c =
+pub returns-in-Err : goal.returns-in-Err
+returns-in-Err c =
     let a = c.args in
-    rw c.in-Violated.is (c.violated.ensures ∙ ap (λ (f : Fault). verdict a.c (breach a.c f)) c.fault_of.ensures)
+    rw c.in-Err.is (c.violated.ensures ∙ ap (λ (f : Fault). verdict a.c (breach a.c f)) c.fault_of.ensures)

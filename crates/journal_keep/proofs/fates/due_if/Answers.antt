@@ -7,5 +7,5 @@ use Rattle.journal_keep.proofs.fates.due_if.Goals as goal
 pub returns-then-stored : goal.returns-then-stored
 returns-then-stored c = sym (yes c.args.stored (entry_due c.args.kind) nothing_due c.if-stored.true)
 
-pub returns : goal.returns
-returns c = sym (no c.args.stored (entry_due c.args.kind) nothing_due c.if-stored.false)
+pub returns-else-stored : goal.returns-else-stored
+returns-else-stored c = sym (no c.args.stored (entry_due c.args.kind) nothing_due c.if-stored.false)

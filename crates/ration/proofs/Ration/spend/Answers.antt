@@ -4,13 +4,13 @@ use Rattle.laws.specs.Pick.{pick}
 use borrow.Author.Tests.{le-leb, lt-leb}
 use Rattle.ration.proofs.Ration.spend.Goals as goal
 
-pub returns-then-n-left : goal.returns-then-n-left
+pub returns-in-Finite : goal.returns-in-Finite
 unfolding spend pick
-returns-then-n-left c = simp (c.in-Finite.is, le-leb _ _ c.if-n-left.true)
+returns-in-Finite c = simp (c.in-Finite.is, le-leb _ _ c.if-n-left.true)
 
-pub returns-else-n-left : goal.returns-else-n-left
+pub returns-in-Finite-2 : goal.returns-in-Finite-2
 unfolding spend pick
-returns-else-n-left c = simp (c.in-Finite.is, lt-leb _ _ c.if-n-left.false)
+returns-in-Finite-2 c = simp (c.in-Finite.is, lt-leb _ _ c.if-n-left.false)
 
 pub returns-in-Endless : goal.returns-in-Endless
 unfolding spend pick

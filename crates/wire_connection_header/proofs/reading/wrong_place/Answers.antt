@@ -1,43 +1,37 @@
--- `wrong_place` meets its contract: the bytes are tested in their order, and the first one that fails its test is told.
-use mathlib.Core.Path.{refl, sym, ◌∙◌}
-use native.Mathlib.Omega.{arith}
-use borrow.Author.Tests.{eq-eqb, ne_eqb}
-use Rattle.laws.proofs.Pick.{yes, no}
-use Rattle.wire.proofs.Tables.{header_wrong}
+-- `wrong_place` meets its contract: the first arm that fits is that of the first wrong byte.
+use Rattle.std.proofs.Common.{arith}
+use Rattle.wire_connection_header.proofs.Places.{at_0, at_1, at_2, at_3, at_4, at_7}
 use Rattle.wire_connection_header.proofs.reading.wrong_place.Goals as goal
 
-pub returns-then-a-ne74 : goal.returns-then-a-ne74
-returns-then-a-ne74 c h l r e =
-    let a = c.args in
-    sym (no _ _ _ (ne_eqb _ _ c.if-a-ne74.true))
-    ∙ header_wrong a.a a.b a.c a.d a.version (omega arith) (omega arith) (omega arith) (omega arith) (omega arith) h l r e
+pub returns-in-74-2 : goal.returns-in-74-2
+returns-in-74-2 c = at_7 c.args.bytes.now (λ i. (c.type_inv.bytes i).fits) (omega arith) (omega arith) (omega arith) (omega arith) (omega arith) (λ q. omega arith)
 
-pub returns-then-b-ne109 : goal.returns-then-b-ne109
-returns-then-b-ne109 c h l r e =
-    let a = c.args in
-    sym (yes _ _ _ (eq-eqb _ _ c.if-a-ne74.false) ∙ no _ _ _ (ne_eqb _ _ c.if-b-ne109.true))
-    ∙ header_wrong a.a a.b a.c a.d a.version (omega arith) (omega arith) (omega arith) (omega arith) (omega arith) h l r e
+pub returns-in-74-3 : goal.returns-in-74-3
+returns-in-74-3 c = at_4 c.args.bytes.now (λ i. (c.type_inv.bytes i).fits) (omega arith) (omega arith) (omega arith) (omega arith) (λ q. omega arith)
 
-pub returns-then-c-ne117 : goal.returns-then-c-ne117
-returns-then-c-ne117 c h l r e =
-    let a = c.args in
-    sym (yes _ _ _ (eq-eqb _ _ c.if-a-ne74.false) ∙ yes _ _ _ (eq-eqb _ _ c.if-b-ne109.false) ∙ no _ _ _ (ne_eqb _ _ c.if-c-ne117.true))
-    ∙ header_wrong a.a a.b a.c a.d a.version (omega arith) (omega arith) (omega arith) (omega arith) (omega arith) h l r e
+pub returns-in-74-3-2 : goal.returns-in-74-3-2
+returns-in-74-3-2 c = at_4 c.args.bytes.now (λ i. (c.type_inv.bytes i).fits) (omega arith) (omega arith) (omega arith) (omega arith) (λ q. omega arith)
 
-pub returns-then-d-ne120 : goal.returns-then-d-ne120
-returns-then-d-ne120 c h l r e =
-    let a = c.args in
-    sym (yes _ _ _ (eq-eqb _ _ c.if-a-ne74.false) ∙ yes _ _ _ (eq-eqb _ _ c.if-b-ne109.false) ∙ yes _ _ _ (eq-eqb _ _ c.if-c-ne117.false) ∙ no _ _ _ (ne_eqb _ _ c.if-d-ne120.true))
-    ∙ header_wrong a.a a.b a.c a.d a.version (omega arith) (omega arith) (omega arith) (omega arith) (omega arith) h l r e
+pub returns-in-74-4 : goal.returns-in-74-4
+returns-in-74-4 c = at_3 c.args.bytes.now (λ i. (c.type_inv.bytes i).fits) (omega arith) (omega arith) (omega arith) (λ q. omega arith)
 
-pub returns-then-version-ne1 : goal.returns-then-version-ne1
-returns-then-version-ne1 c h l r e =
-    let a = c.args in
-    sym (yes _ _ _ (eq-eqb _ _ c.if-a-ne74.false) ∙ yes _ _ _ (eq-eqb _ _ c.if-b-ne109.false) ∙ yes _ _ _ (eq-eqb _ _ c.if-c-ne117.false) ∙ yes _ _ _ (eq-eqb _ _ c.if-d-ne120.false) ∙ no _ _ _ (ne_eqb _ _ c.if-version-ne1.true))
-    ∙ header_wrong a.a a.b a.c a.d a.version (omega arith) (omega arith) (omega arith) (omega arith) (omega arith) h l r e
+pub returns-in-74-4-3 : goal.returns-in-74-4-3
+returns-in-74-4-3 c = at_3 c.args.bytes.now (λ i. (c.type_inv.bytes i).fits) (omega arith) (omega arith) (omega arith) (λ q. omega arith)
 
-pub returns : goal.returns
-returns c h l r e =
-    let a = c.args in
-    sym (yes _ _ _ (eq-eqb _ _ c.if-a-ne74.false) ∙ yes _ _ _ (eq-eqb _ _ c.if-b-ne109.false) ∙ yes _ _ _ (eq-eqb _ _ c.if-c-ne117.false) ∙ yes _ _ _ (eq-eqb _ _ c.if-d-ne120.false) ∙ yes _ _ _ (eq-eqb _ _ c.if-version-ne1.false) ∙ no _ _ _ refl)
-    ∙ header_wrong a.a a.b a.c a.d a.version (omega arith) (omega arith) (omega arith) (omega arith) (omega arith) h l r e
+pub returns-in-74-5 : goal.returns-in-74-5
+returns-in-74-5 c = at_2 c.args.bytes.now (λ i. (c.type_inv.bytes i).fits) (omega arith) (omega arith) (λ q. omega arith)
+
+pub returns-in-74-5-4 : goal.returns-in-74-5-4
+returns-in-74-5-4 c = at_2 c.args.bytes.now (λ i. (c.type_inv.bytes i).fits) (omega arith) (omega arith) (λ q. omega arith)
+
+pub returns-in-74-6 : goal.returns-in-74-6
+returns-in-74-6 c = at_1 c.args.bytes.now (λ i. (c.type_inv.bytes i).fits) (omega arith) (λ q. omega arith)
+
+pub returns-in-74-6-5 : goal.returns-in-74-6-5
+returns-in-74-6-5 c = at_1 c.args.bytes.now (λ i. (c.type_inv.bytes i).fits) (omega arith) (λ q. omega arith)
+
+pub returns-in_default : goal.returns-in_default
+returns-in_default c = at_0 c.args.bytes.now (λ i. (c.type_inv.bytes i).fits) (λ q. omega arith)
+
+pub returns-in_default-6 : goal.returns-in_default-6
+returns-in_default-6 c = at_0 c.args.bytes.now (λ i. (c.type_inv.bytes i).fits) (λ q. omega arith)

@@ -1,6 +1,5 @@
 -- `make_state` meets its contract: zeros, and the three words that are not zero.
-use mathlib.Core.Path.{◌≡◌, refl}
-use lib.ListN.{set, replicate}
+use Rattle.std.proofs.Common.{◌≡◌, ℕ, refl, ap, ◌∙◌, set, replicate, rules}
 use Rattle.state.specs.declared.Setup.{Setup}
 use Rattle.state.specs.declared.Stage.TheVariants as stage
 use Rattle.state.specs.New.{fresh}
@@ -15,5 +14,5 @@ made s = refl
 
 pub returns : goal.returns
 returns c =
-    let s = c.args.setup in
-    rw (c.stage_number.ensures, c.clear.ensures) (made s)
+    let zeros : c.fill.new.self ≡ replicate word_count 0 = c.fill.ensures.after (λ y e. search rules) ∙ ap (λ (n : ℕ). replicate n 0) c.told-state in
+    rw (c.stage_number.ensures, c.from.ensures, zeros) (made c.args.setup)

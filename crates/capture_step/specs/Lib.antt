@@ -1,0 +1,2 @@
+-- The definition of a message at a place, with its size.
+pub mod Answer

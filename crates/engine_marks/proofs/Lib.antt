@@ -1,2 +1,0 @@
--- The laws of the marks of a room.
-pub mod Rooms

@@ -1,0 +1,2 @@
+-- The law of the lines of entries.
+pub mod Lines

@@ -1,0 +1,2 @@
+-- The words of what the calls of the journal answer.
+pub mod Texts

@@ -1,0 +1,2 @@
+-- What the proof of a grant cites.
+pub mod Growing

@@ -1,0 +1,2 @@
+-- What the proofs of a turn cite.
+pub mod Sending

@@ -1,7 +1,0 @@
--- `with_out` meets its contract: its words, one behind another.
-use Rattle.text_line.proofs.Lines.{added_twice}
-use Rattle.text_state.proofs.states.with_out.Goals as goal
-
-pub returns : goal.returns
-returns c =
-    added_twice _ _ _ c.text.ensures c.with_ration.ensures

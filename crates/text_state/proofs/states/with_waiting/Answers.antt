@@ -1,8 +1,0 @@
--- `with_waiting` meets its contract: its words, one behind another.
-use Rattle.text_line.proofs.Lines.{added_twice}
-use Rattle.text_state.proofs.states.with_waiting.Goals as goal
-
-pub returns : goal.returns
-returns c =
-    let item = c.item in
-    added_twice _ _ _ item.ensures c.flag.ensures

@@ -1,2 +1,0 @@
--- What the proofs of the flags share.
-pub mod Flags

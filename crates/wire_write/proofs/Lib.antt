@@ -1,0 +1,2 @@
+-- The room after two copies.
+pub mod Copied

@@ -1,5 +1,0 @@
--- `own_start` meets its contract: the ration of the number that is read.
-use Rattle.words_access.proofs.head.own_start.Goals as goal
-
-pub returns : goal.returns
-returns c = simp (c.from_header.ensures, c.own_number.ensures)
