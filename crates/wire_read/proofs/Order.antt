@@ -57,6 +57,14 @@ pub order_clear : (s : Bool) {f c : Bool} (place : ℕ) (m : Message) → c ≡ 
 order_clear true {f} {c} place m p q = yes _ _ _ refl ∙ order_taken true f c place m p refl q
 order_clear false {f} {c} place m p q = no _ _ _ refl ∙ order_sender false f c place m p refl
 
+-- ---- the test of a session number, as the code has it
+
+pub no_session : {x t : Bool} → x ≡ t → x ≡ false → t ≡ false
+no_session p q = sym p ∙ q
+
+pub a_session : {x t : Bool} → x ≡ t → x ≡ true → t ≡ true
+a_session p q = sym p ∙ q
+
 -- ---- a session and nothing else
 
 abbrev bare_clear : ℕ → ℕ → ℕ → Bool
