@@ -1,4 +1,5 @@
--- Laws of words and of digits.
+-- Laws of words, digits and numbers.
+pub mod Values
 pub mod Texts
 pub mod Digits
 pub mod Splits
