@@ -7,7 +7,10 @@ ghost use Rattle.journal_rules.specs.Region.{block_at, entry_in, sized, first_ba
 ghost use Rattle.journal_rules.specs.Calls.{read_call, list_call};
 ghost use Rattle.journal_read.specs.Answers.{entry_as, entries_as, listed_as, begins_open};
 
+mod block_list;
+
 use arrayvec::ArrayVec;
+pub use block_list::BlockList;
 use journal_region::{Search, search_region};
 use refusal::Refusal;
 
@@ -18,6 +21,12 @@ pub struct Entry {
     pub number: u8,
     pub kind: u8,
 }
+
+/// The entries of a region, in the order of their serials.
+pub type Entries = BlockList<Entry>;
+
+/// The serials of the starts of a region that are not to be retried, in order.
+pub type Listing = BlockList<u8>;
 
 // What stands in the block at a place, whether it is good or not.
 fn entry_at(region: &[u8], place: u8) -> Entry
@@ -32,7 +41,7 @@ fn entry_at(region: &[u8], place: u8) -> Entry
 }
 
 // The entries of the blocks before the first bad one.
-fn entries_before(region: &[u8], count: u8) -> ArrayVec<Entry, 128>
+fn entries_before(region: &[u8], count: u8) -> Entries
     requires { (sized region.now ≡ true) × (count ≡ first_bad region.now) }
     ensures { map entry_as result.items ≡ entries_of region.now }
 {
@@ -40,11 +49,11 @@ fn entries_before(region: &[u8], count: u8) -> ArrayVec<Entry, 128>
     for place in 0..count {
         entries.push(entry_at(region, place));
     }
-    entries
+    BlockList::of(&entries)
 }
 
 // The entries of a region, in the order of their serials.
-pub fn read_entries(region: &[u8]) -> Result<ArrayVec<Entry, 128>, Refusal>
+pub fn read_entries(region: &[u8]) -> Result<Entries, Refusal>
     ensures { entries_as result ≡ read_call region.now }
 {
     let count = match search_region(region)? {
@@ -77,7 +86,7 @@ fn begins_open(entries: &[Entry]) -> bool
 }
 
 // The serials of the starts that no entry behind them answers, in order.
-fn open_starts(entries: &[Entry]) -> ArrayVec<u8, 128>
+fn open_starts(entries: &[Entry]) -> Listing
     requires { length entries.now ≤ 128 }
     ensures { result.items ≡ not_to_retry 0 (map entry_as entries.now) }
 {
@@ -87,11 +96,11 @@ fn open_starts(entries: &[Entry]) -> ArrayVec<u8, 128>
             serials.push(place as u8 + 1);
         }
     }
-    serials
+    BlockList::of(&serials)
 }
 
 // The serials of the starts of a region that are not to be retried, in order.
-pub fn list(region: &[u8]) -> Result<ArrayVec<u8, 128>, Refusal>
+pub fn list(region: &[u8]) -> Result<Listing, Refusal>
     ensures { listed_as result ≡ list_call region.now }
 {
     let entries = read_entries(region)?;

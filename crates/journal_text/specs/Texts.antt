@@ -1,12 +1,12 @@
 -- The words of what a store, a repair, a read and a listing answer.
 use Rattle.std.specs.Prelude.{ℕ, suc, List, [], ◌∷◌, ◌++◌, length, Result, Ok, Err, Option, Some, None, codes}
 use Rattle.std.specs.List.{flat_map}
-use Rattle.arrayvec.specs.ArrayVec.{ArrayVec}
 use Rattle.refusal.specs.declared.Refusal.{Refusal}
 use Rattle.refusal.specs.Number.{refusal_number}
 use Rattle.text_line.specs.Line.{item_text}
 use Rattle.journal_store.specs.declared.Written.{Written}
 use Rattle.journal_store.specs.declared.Written.TheVariants.{Whole, Cut}
+use Rattle.journal_read.specs.BlockList.{BlockList}
 use Rattle.journal_read.specs.declared.Entry.{Entry}
 
 abbrev pub store_text : Result Written Refusal → List ℕ
@@ -29,10 +29,10 @@ abbrev pub entry_lines : ℕ → List Entry → List ℕ
 entry_lines serial [] = []
 entry_lines serial (e ∷ es) = entry_line serial e ++ entry_lines (suc serial) es
 
-abbrev pub read_text : Result (ArrayVec Entry) Refusal → List ℕ
+abbrev pub read_text : Result (BlockList Entry) Refusal → List ℕ
 read_text (Ok entries) = item_text "read ok " (length entries.items) ++ entry_lines 1 entries.items
 read_text (Err r) = item_text "read refused " (refusal_number r)
 
-abbrev pub list_text : Result (ArrayVec ℕ) Refusal → List ℕ
+abbrev pub list_text : Result (BlockList ℕ) Refusal → List ℕ
 list_text (Ok serials) = codes "list ok" ++ flat_map (item_text " ") serials.items
 list_text (Err r) = item_text "list refused " (refusal_number r)

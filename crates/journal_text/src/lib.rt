@@ -4,8 +4,7 @@
 ghost use Rattle.std.specs.Prelude.{Some};
 ghost use Rattle.journal_text.specs.Texts.{entry_line, store_text, repair_text, read_text, list_text};
 
-use arrayvec::ArrayVec;
-use journal_read::Entry;
+use journal_read::{Entries, Entry, Listing};
 use journal_store::Written;
 use refusal::Refusal;
 use std::fmt;
@@ -19,12 +18,12 @@ pub struct StoreText(pub Result<Written, Refusal>);
 pub struct RepairText(pub Result<Option<Written>, Refusal>);
 
 /// What a read answers, in a line for the number of entries and one for each entry.
-#[derive(Drop)]
-pub struct ReadText(pub Result<ArrayVec<Entry, 128>, Refusal>);
+#[derive(Clone, Copy)]
+pub struct ReadText(pub Result<Entries, Refusal>);
 
 /// What a listing answers, in words.
-#[derive(Drop)]
-pub struct ListText(pub Result<ArrayVec<u8, 128>, Refusal>);
+#[derive(Clone, Copy)]
+pub struct ListText(pub Result<Listing, Refusal>);
 
 // The line of an entry, by its serial.
 #[derive(Clone, Copy)]

@@ -43,6 +43,7 @@ returns c =
     let a = c.args in
     let v = c.loop-place.invariant in
     let all = c.loop-place.entries.items in
-    sym (append-nil (map entry_as all))
+    ap (map entry_as) c.of.ensures
+    ∙ sym (append-nil (map entry_as all))
     ∙ ap (λ (l : List JournalEntry). map entry_as all ++ l) (sym (entries_end a.region.now a.count c.loop-place.place c.loop-place-test.false))
     ∙ v.all ∙ sym (entries_are a.region.now c.requires.0 a.count c.requires.1)

@@ -42,6 +42,6 @@ returns c =
     let es = c.args.entries.now in
     let v = c.loop-place.invariant in
     let all : List ℕ = c.loop-place.serials.items in
-    sym (append-nil all)
+    c.of.ensures ∙ sym (append-nil all)
     ∙ ap (λ (l : List ℕ). all ++ l) (ap (not_to_retry c.loop-place.place) (sym (from_end c.loop-place.place es c.loop-place-test.false)))
     ∙ v.all
