@@ -1,64 +1,89 @@
 // A line of text in fixed memory.
-ghost use Rattle.std.specs.Prelude.{◌≡◌, ◌≤◌, [], length, IsOk};
-ghost use Rattle.text_line.specs.Line.{added};
+ghost use Rattle.std.specs.Prelude.{◌≡◌, ◌≤◌, ◌++◌, [], length, IsOk};
+ghost use Rattle.std.specs.Fmt.{decimal};
+ghost use Rattle.laws.specs.Pick.{pick};
+ghost use Rattle.text_line.specs.Line.{line_text, added, LineIs};
 
 use crate::first;
-use arrayvec::ArrayVec;
 use std::fmt;
-use std::marker::Model;
 
 /// How many bytes a line holds.
 const LINE_SIZE: usize = 128;
 
-/// Text of at most 128 bytes; what does not fit is cut off.
-#[derive(Drop)]
+/// Text of at most 128 bytes: the first bytes, as many as the length says; what does not fit is cut off.
+#[derive(Clone, Copy)]
 pub struct Line {
-    bytes: ArrayVec<u8, LINE_SIZE>,
-}
-
-impl Model for Line {
-    ghost use Rattle.std.specs.Prelude.{ℕ, List};
-    ghost use Rattle.text_line.specs.Line.{line_text};
-
-    ghost Value = { List ℕ };
-
-    ghost view = { λ l. line_text l.bytes };
+    pub bytes: [u8; 128],
+    pub length: usize,
 }
 
 impl Line {
     /// A line with no text.
     pub fn new() -> Line
-        ensures { result ≡ [] }
+        ensures { LineIs result [] }
     {
         Line {
-            bytes: ArrayVec::new(),
+            bytes: [0u8; 128],
+            length: 0,
         }
     }
 
     /// The text of the line.
     pub fn as_bytes(&self) -> &[u8]
-        ensures text { result.now ≡ self.now }
+        ensures text { result.now ≡ line_text self.now }
         ensures fits { length result.now ≤ LINE_SIZE }
     {
-        self.bytes.as_slice()
+        first(&self.bytes, self.length)
     }
 
     /// Puts words behind the end of the line; what does not fit is cut off.
-    #[tactic(auto, using(std::proofs::lemmas::Grind::common_steps, crate::proofs::Lines::fitting_added))]
     pub fn push(&mut self, words: &[u8])
-        ensures { self.new ≡ added self.old words.now }
+        ensures { LineIs self.new (added (line_text self.old) words.now) }
     {
-        let room = self.bytes.remaining_capacity();
-        let fitting = first(words, room);
-        self.bytes.try_extend_from_slice(fitting).unwrap()
+        let at = self.length.min(LINE_SIZE);
+        let fitting = first(words, LINE_SIZE - at);
+        let end = at + fitting.len();
+        self.bytes[at..end].copy_from_slice(fitting);
+        self.length = end;
+    }
+
+    /// The line with words behind its end; what does not fit is cut off.
+    pub fn text(mut self, words: &[u8]) -> Line
+        ensures { LineIs result (added (line_text self) words.now) }
+    {
+        self.push(words);
+        self
+    }
+
+    /// The line with a number behind its end, in decimal.
+    pub fn number(self, n: u64) -> Line
+        ensures { LineIs result (added (line_text self) (decimal n)) }
+    {
+        let mut digits = [0u8; 20];
+        let k = io::decimal(n, &mut digits);
+        self.text(&digits[..k])
+    }
+
+    /// The line with the name and the value of an item behind its end.
+    pub fn item(self, name: &[u8], value: u64) -> Line
+        ensures { LineIs result (added (line_text self) (name.now ++ decimal value)) }
+    {
+        self.text(name).number(value)
+    }
+
+    /// The line with the name of a flag behind its end, where the flag is set.
+    pub fn flag(self, name: &[u8], set: bool) -> Line
+        ensures { LineIs result (added (line_text self) (pick set name.now [])) }
+    {
+        self.text(if set { name } else { b"" })
     }
 }
 
 impl fmt::Write for Line {
-    ghost write_str_gives = { λ l words m. m ≡ added l words };
+    ghost write_str_gives = { λ l words m. LineIs m (added (line_text l) words) };
 
     fn write_str(&mut self, words: &str) -> fmt::Result
-        ensures ok { IsOk result → self.new ≡ added self.old words.now }
+        ensures ok { IsOk result → LineIs self.new (added (line_text self.old) words.now) }
         ensures never_fails { IsOk result }
     {
         self.push(words.as_bytes());
