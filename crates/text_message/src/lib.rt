@@ -9,6 +9,10 @@ use std::fmt;
 use text_line::Flag;
 use wire::Message;
 
+mod lines;
+
+pub use lines::{with_failure, with_fault, with_message};
+
 /// A message in words: its type, and each item with its name.
 #[derive(Clone, Copy)]
 pub struct MessageText(pub Message);
