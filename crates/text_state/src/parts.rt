@@ -16,7 +16,7 @@ pub(crate) fn role_words(role: Role) -> &'static str
     }
 }
 
-fn side_words(side: Side) -> &'static str
+pub(crate) fn side_words(side: Side) -> &'static str
     ensures { result.now ≡ side_text side }
 {
     match side {
