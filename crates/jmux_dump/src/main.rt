@@ -13,7 +13,8 @@ use std::env::FillError;
 use std::io;
 use std::io::Read;
 use std::rt::Env;
-use text_message::{FaultText, MessageText};
+use text_line::Line;
+use text_message::{with_fault, with_message};
 use wire::{Message, Role};
 
 // Whether the program was started with an argument of this index.
@@ -36,28 +37,37 @@ fn argument(rt: &impl Env) -> Option<Role> {
     }
 }
 
+fn put(rt: &impl Print, line: Line) -> io::Result<()> {
+    rt.write_all(line.text(b"\n").as_bytes())
+}
+
+// A line that begins with a place.
+fn at(place: usize) -> Line {
+    Line::new().number(place as u64)
+}
+
 // Prints the line of a message, after which reading goes on.
 fn put_message(rt: &impl Print, place: usize, m: Message) -> io::Result<bool> {
-    println!(rt; "{place} {}", MessageText(m))?;
+    put(rt, with_message(at(place).text(b" "), m))?;
     Ok(true)
 }
 
 // Prints the line of a refusal, after which reading stops.
 fn put_refusal(rt: &impl Print, place: usize, number: u8) -> io::Result<bool> {
-    println!(rt; "{place} refused {number}")?;
+    put(rt, at(place).item(b" refused ", number as u64))?;
     Ok(false)
 }
 
 // Prints the line of a violation; its own place counts from the one that the line begins with.
 fn put_fault(rt: &impl Print, place: usize, fault: Fault) -> io::Result<bool> {
-    println!(rt; "{place}{}", FaultText(fault))?;
+    put(rt, with_fault(at(place), fault))?;
     Ok(false)
 }
 
 // Prints the number of the connection header; nothing else depends on it.
 fn put_header(rt: &impl Print, capture: &[u8]) -> io::Result<()> {
     match wire_connection_header::read_connection_header(capture) {
-        Ok(n) => println!(rt; "0 header {n}"),
+        Ok(n) => put(rt, at(0).item(b" header ", n as u64)),
         Err(ReadError::Incomplete) => {
             put_refusal(rt, 0, Refusal::Incomplete.number())?;
             Ok(())
@@ -107,7 +117,7 @@ fn dump(
         return rt.eprintln("the capture is longer than 524288 bytes");
     }
     let capture = text_line::first(bytes, n);
-    println!(rt; "length {}", capture.len())?;
+    put(rt, Line::new().item(b"length ", capture.len() as u64))?;
     put_header(rt, capture)?;
     put_messages(rt, capture, from)
 }
