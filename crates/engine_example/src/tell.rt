@@ -1,7 +1,11 @@
 // What is told on standard error.
 use engine::{Called, Session};
 use std::io;
-use text_state::{AnswerText, SessionText};
+use text_line::Line;
+
+fn put(rt: &HostRuntime, line: Line) -> io::Result<()> {
+    rt.stderr().write_all(line.text(b"\n").as_bytes())
+}
 
 // The payload of a message, which is a part of the input.
 fn payload(rt: &HostRuntime, called: &Called, input: &[u8]) -> io::Result<()> {
@@ -15,15 +19,14 @@ fn payload(rt: &HostRuntime, called: &Called, input: &[u8]) -> io::Result<()> {
 
 // The answer of a receive, in the words of a script's output, and the payload.
 pub(crate) fn received(rt: &HostRuntime, called: &Called, input: &[u8]) -> io::Result<()> {
-    let answer = called.answer;
-    let used = called.used;
-    eprintln!(rt; "receive{}", AnswerText { answer, used })?;
+    let line = Line::new().text(b"receive");
+    put(rt, text_state::answered(line, called.answer, called.used))?;
     payload(rt, called, input)
 }
 
 // What became of a session.
 pub(crate) fn session(rt: &HostRuntime, number: u8, session: Session) -> io::Result<()> {
-    rt.eprintln(SessionText { number, session })
+    put(rt, text_state::session_line(number, session))
 }
 
 pub(crate) fn usage(rt: &HostRuntime) -> io::Result<()> {

@@ -82,16 +82,18 @@ fn change(
     }
 }
 
+// How many bytes a block of a region has.
+const BLOCK_SIZE: usize = 512;
+
 // Prints the bytes of a block, or that there is none.
 fn block(rt: &impl Print, bytes: &[u8]) -> io::Result<()> {
     if bytes.is_empty() {
         return rt.println("block none");
     }
-    rt.print("block ")?;
-    for byte in bytes {
-        print!(rt; "{byte:02x}")?;
-    }
-    rt.println("")
+    let mut line = [b'\n'; 7 + 2 * BLOCK_SIZE];
+    line[..6].copy_from_slice(b"block ");
+    let n = script_words::to_hex(bytes, &mut line[6..]);
+    rt.write_all(&line[..7 + 2 * n])
 }
 
 // Does what a line asks, and prints its answer.
