@@ -3,35 +3,40 @@ use crate::client::Ask;
 use engine::Called;
 use journal_keep::Stopped;
 use journal_text::{ListText, ReadText};
-use std::{fmt, io};
-use text_state::AnswerText;
+use std::io;
+use text_line::{Line, first};
 
 // The name of a call, and the session that it is called with.
-impl fmt::Display for Ask {
-    fn fmt<W: fmt::Write>(&self, f: &mut fmt::Formatter<W>) -> fmt::Result {
-        match self {
-            Ask::Start => f.write_str("start"),
-            Ask::ReceiveHeader | Ask::Receive(_, _) => f.write_str("receive"),
-            Ask::Open(n) => write!(f, "open {n}"),
-            Ask::Turn => f.write_str("turn"),
-            Ask::Abort(n) => write!(f, "abort {n}"),
-            Ask::Lost => f.write_str("lost"),
-        }
+fn named(ask: Ask) -> Line {
+    let line = Line::new();
+    match ask {
+        Ask::Start => line.text(b"start"),
+        Ask::ReceiveHeader | Ask::Receive(_, _) => line.text(b"receive"),
+        Ask::Open(n) => line.item(b"open ", n as u64),
+        Ask::Turn => line.text(b"turn"),
+        Ask::Abort(n) => line.item(b"abort ", n as u64),
+        Ask::Lost => line.text(b"lost"),
     }
 }
 
-// How a keep ended.
-#[derive(Clone, Copy)]
-struct KeptText(Option<Stopped>);
-
-impl fmt::Display for KeptText {
-    fn fmt<W: fmt::Write>(&self, f: &mut fmt::Formatter<W>) -> fmt::Result {
-        match self.0 {
-            None => f.write_str("kept"),
-            Some(Stopped::Cut) => f.write_str("cut"),
-            Some(Stopped::Refused(why)) => write!(f, "refused {}", why.number()),
-        }
+// The line with how a keep ended behind its end.
+fn with_kept(line: Line, stopped: Option<Stopped>) -> Line {
+    match stopped {
+        None => line.text(b": kept"),
+        Some(Stopped::Cut) => line.text(b": cut"),
+        Some(Stopped::Refused(why)) => line.item(b": refused ", why.number() as u64),
     }
+}
+
+// The line with what a call wrote behind its end, and what becomes of that.
+fn with_written(line: Line, withheld: bool, written: &[u8]) -> Line {
+    if written.is_empty() {
+        return line.text(b", nothing written");
+    }
+    let mut digits = [0u8; 64];
+    let n = script_words::to_hex(written, &mut digits);
+    let becomes = if withheld { ", withheld " } else { ", sent " };
+    line.text(becomes.as_bytes()).text(first(&digits, 2 * n))
 }
 
 // Prints the line of a call: what the engine answers, how the keep ended, and what is sent or withheld.
@@ -42,24 +47,9 @@ pub(crate) fn called(
     stopped: Option<Stopped>,
     written: &[u8],
 ) -> io::Result<()> {
-    let answer = AnswerText {
-        answer: called.answer,
-        used: called.used,
-    };
-    let kept = KeptText(stopped);
-    print!(rt; "{ask}{answer}: {kept}")?;
-    if written.is_empty() {
-        return rt.println(", nothing written");
-    }
-    rt.print(if stopped.is_some() {
-        ", withheld "
-    } else {
-        ", sent "
-    })?;
-    for byte in written {
-        print!(rt; "{byte:02x}")?;
-    }
-    rt.println("")
+    let line = text_state::answered(named(ask), called.answer, called.used);
+    let told = with_written(with_kept(line, stopped), stopped.is_some(), written);
+    rt.write_all(told.text(b"\n").as_bytes())
 }
 
 // Prints what the journal holds: its entries, and the starts that are not to be retried.
