@@ -1,28 +1,38 @@
 // Numbers through the ration.
+use crate::show::put;
 use ration::Ration;
 use std::io;
-use text_state::RationText;
+use text_line::Line;
+use text_state::with_ration;
 
 fn start(rt: &impl Print, number: u16) -> io::Result<()> {
-    let ration = Ration::from_header(number);
-    println!(rt; "header number {number} starts {}", RationText(ration))
+    let line = Line::new().item(b"header number ", number as u64);
+    put(
+        rt,
+        with_ration(line.text(b" starts "), Ration::from_header(number)),
+    )
+}
+
+// A ration, the name of what is done to it, and the number that it is done with.
+fn asked(ration: Ration, name: &[u8], n: u32) -> Line {
+    with_ration(Line::new().text(b"ration "), ration).item(name, n as u64)
 }
 
 fn spend(rt: &impl Print, ration: Ration, n: u32) -> io::Result<()> {
-    print!(rt; "ration {} spend {n}: ", RationText(ration))?;
+    let line = asked(ration, b" spend ", n);
     match ration.spend(n) {
-        Some(left) => println!(rt; "left {}", RationText(left)),
-        None => println!(rt; "not enough"),
+        Some(left) => put(rt, with_ration(line.text(b": left "), left)),
+        None => put(rt, line.text(b": not enough")),
     }
 }
 
 // Grows a ration by a shifted increment.
 fn grow(rt: &impl Print, ration: Ration, shift: u8, increment: u16) -> io::Result<()> {
     let n = wire_fields::effective_increment(shift, increment);
-    print!(rt; "ration {} grow {n}: ", RationText(ration))?;
+    let line = asked(ration, b" grow ", n);
     match ration.grow(n) {
-        Some(more) => println!(rt; "now {}", RationText(more)),
-        None => println!(rt; "past the largest"),
+        Some(more) => put(rt, with_ration(line.text(b": now "), more)),
+        None => put(rt, line.text(b": past the largest")),
     }
 }
 

@@ -1,30 +1,30 @@
 // Byte strings through the reader: a table of them, line by line.
-use crate::show;
+use crate::show::{put, with_refusal};
 use refusal::ReadError;
 use script_words::{from_hex, head, is, tail};
 use std::io;
-use text_line::first;
-use text_message::MessageText;
+use text_line::{Line, first};
+use text_message::{with_fault, with_message};
 use wire::{Message, Role};
 
-// Prints a message that was read, and how many bytes of the input it has.
-fn taken(rt: &impl Print, m: Message) -> io::Result<()> {
-    let used = 4 + u32::from(wire_fields::body_length(m));
-    print!(rt; ": ok {} used {used}", MessageText(m))
+// A message that was read, and how many bytes of the input it has.
+fn taken(m: Message) -> Line {
+    let used = 4 + u64::from(wire_fields::body_length(m));
+    with_message(Line::new().text(b": ok "), m).item(b" used ", used)
 }
 
-// Prints why nothing was read.
-fn unread(rt: &impl Print, error: ReadError) -> io::Result<()> {
+// Why nothing was read.
+fn unread(error: ReadError) -> Line {
     match error {
-        ReadError::Incomplete => show::refused(rt, 10),
-        ReadError::Violated(fault) => show::violated(rt, fault),
+        ReadError::Incomplete => with_refusal(Line::new(), 10),
+        ReadError::Violated(fault) => with_fault(Line::new().text(b":"), fault),
     }
 }
 
-fn answer(rt: &impl Print, answer: Result<Message, ReadError>) -> io::Result<()> {
+fn answer(answer: Result<Message, ReadError>) -> Line {
     match answer {
-        Ok(m) => taken(rt, m),
-        Err(error) => unread(rt, error),
+        Ok(m) => taken(m),
+        Err(error) => unread(error),
     }
 }
 
@@ -54,30 +54,24 @@ fn put_bytes(digits: &[u8], room: &mut [u8]) -> usize {
     count(digits.get(k..).unwrap_or(b""), n)
 }
 
-// Prints what the bytes of a message, behind the name of their sender, are read as.
-fn message(rt: &impl Print, line: &[u8]) -> io::Result<()> {
+// What the bytes of a message, behind the name of their sender, are read as.
+fn message(line: &[u8]) -> Line {
     let mut bytes = [0u8; 65600];
     let n = put_bytes(tail(line), &mut bytes);
-    answer(
-        rt,
-        wire_read::read_message(role_of(head(line)), first(&bytes, n)),
-    )
+    answer(wire_read::read_message(role_of(head(line)), first(&bytes, n)))
 }
 
-fn header_answer(rt: &impl Print, answer: Result<u16, ReadError>) -> io::Result<()> {
+fn header_answer(answer: Result<u16, ReadError>) -> Line {
     match answer {
-        Ok(n) => print!(rt; ": ok {n}"),
-        Err(error) => unread(rt, error),
+        Ok(n) => Line::new().item(b": ok ", n as u64),
+        Err(error) => unread(error),
     }
 }
 
-fn header(rt: &impl Print, digits: &[u8]) -> io::Result<()> {
+fn header(digits: &[u8]) -> Line {
     let mut bytes = [0u8; 16];
     let n = from_hex(digits, &mut bytes);
-    header_answer(
-        rt,
-        wire_connection_header::read_connection_header(first(&bytes, n)),
-    )
+    header_answer(wire_connection_header::read_connection_header(first(&bytes, n)))
 }
 
 // Prints a line of the table, and behind it what its bytes are read as.
@@ -87,11 +81,10 @@ fn line(rt: &impl Print, line: &[u8]) -> io::Result<()> {
     }
     rt.write_all(line)?;
     if is(head(line), b"header") {
-        header(rt, tail(line))?;
+        put(rt, header(tail(line)))
     } else {
-        message(rt, tail(line))?;
+        put(rt, message(tail(line)))
     }
-    rt.println("")
 }
 
 pub(crate) fn all(rt: &impl Print, table: &[u8]) -> io::Result<()> {

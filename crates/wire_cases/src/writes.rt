@@ -1,29 +1,29 @@
 // Messages through the writer.
-use crate::show;
-use crate::show::role_word;
+use crate::show::{put, role_word, with_hex, with_refusal};
 use refusal::Refusal;
 use std::io;
-use text_line::Hex;
-use text_message::MessageText;
+use text_line::Line;
+use text_message::with_message;
 use wire::{Message, Role};
 
-// Prints what was written, and the bytes of the room behind it.
-fn wrote(rt: &impl Print, n: usize, room: &[u8]) -> io::Result<()> {
-    if let Some((front, back)) = room.split_at_checked(n) {
-        print!(rt; ": wrote {} then {}", Hex(front), Hex(back))?;
+// The line with what was written, and the bytes of the room behind it.
+fn with_written(line: Line, n: usize, room: &[u8]) -> Line {
+    match room.split_at_checked(n) {
+        Some((front, back)) => {
+            with_hex(
+                with_hex(line.text(b": wrote "), front).text(b" then "),
+                back,
+            )
+        }
+        None => line,
     }
-    Ok(())
 }
 
-fn refused(rt: &impl Print, number: u8, room: &[u8]) -> io::Result<()> {
-    show::refused(rt, number)?;
-    print!(rt; " room {}", Hex(room))
-}
-
-fn result(rt: &impl Print, w: Result<usize, Refusal>, room: &[u8]) -> io::Result<()> {
+// The line with what a write into a room answers.
+fn with_result(line: Line, w: Result<usize, Refusal>, room: &[u8]) -> Line {
     match w {
-        Ok(n) => wrote(rt, n, room),
-        Err(r) => refused(rt, r.number(), room),
+        Ok(n) => with_written(line, n, room),
+        Err(r) => with_hex(with_refusal(line, r.number()).text(b" room "), room),
     }
 }
 
@@ -37,9 +37,9 @@ fn write_to(
     body: &[u8],
 ) -> io::Result<()> {
     let w = wire_write::write_message(from, m, body, room);
-    print!(rt; "{name} {} {}", role_word(from), MessageText(m))?;
-    result(rt, w, room)?;
-    rt.println("")
+    let line = Line::new().text(name.as_bytes()).text(b" ");
+    let line = line.text(role_word(from).as_bytes()).text(b" ");
+    put(rt, with_result(with_message(line, m), w, room))
 }
 
 fn write(rt: &impl Print, from: Role, m: Message, body: &[u8]) -> io::Result<()> {
@@ -161,9 +161,8 @@ fn rooms(rt: &impl Print) -> io::Result<()> {
 // Writes a connection header in a room, behind the name of the case.
 fn header_to(rt: &impl Print, name: &str, room: &mut [u8], n: u16) -> io::Result<()> {
     let w = wire_connection_header::write_connection_header(n, room);
-    print!(rt; "{name} {n}")?;
-    result(rt, w, room)?;
-    rt.println("")
+    let line = Line::new().text(name.as_bytes()).item(b" ", n as u64);
+    put(rt, with_result(line, w, room))
 }
 
 fn connection(rt: &impl Print) -> io::Result<()> {
