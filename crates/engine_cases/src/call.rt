@@ -1,7 +1,7 @@
 // The calls of one end: made to the engine, and in words.
 use engine::{Called, Connection};
 use script_lines::Call;
-use std::fmt;
+use text_line::Line;
 
 // Makes a call to the engine.
 pub(crate) fn ask(
@@ -45,20 +45,16 @@ pub(crate) fn word_of(call: Call) -> &'static str {
     }
 }
 
-/// A call in words, with its numbers.
-#[derive(Clone, Copy)]
-pub(crate) struct CallText(pub(crate) Call);
-
-impl fmt::Display for CallText {
-    fn fmt<W: fmt::Write>(&self, f: &mut fmt::Formatter<W>) -> fmt::Result {
-        f.write_str(word_of(self.0))?;
-        match self.0 {
-            Call::Open(n) | Call::Put(n) | Call::Finish(n) | Call::Close(n) => write!(f, " {n}"),
-            Call::Grant(n, amount) => write!(f, " {n} {amount}"),
-            Call::Abort(n, true) => write!(f, " {n} partial"),
-            Call::Abort(n, false) => write!(f, " {n}"),
-            Call::Ping(cookie) => write!(f, " {cookie}"),
-            Call::Start | Call::Turn | Call::Shutdown | Call::Lost | Call::Receive => Ok(()),
+// The line with the word of a call and its numbers behind its end.
+pub(crate) fn with_call(line: Line, call: Call) -> Line {
+    let line = line.text(word_of(call).as_bytes());
+    match call {
+        Call::Open(n) | Call::Put(n) | Call::Finish(n) | Call::Close(n) => {
+            line.item(b" ", n as u64)
         }
+        Call::Grant(n, amount) => line.item(b" ", n as u64).item(b" ", amount as u64),
+        Call::Abort(n, partial) => line.item(b" ", n as u64).flag(b" partial", partial),
+        Call::Ping(cookie) => line.item(b" ", cookie as u64),
+        Call::Start | Call::Turn | Call::Shutdown | Call::Lost | Call::Receive => line,
     }
 }

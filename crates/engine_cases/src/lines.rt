@@ -1,14 +1,13 @@
 // A line: one call, what it answers and writes, and what it changes.
-use crate::call::{CallText, ask};
+use crate::call::{ask, with_call};
 use crate::compare::{Change, compared};
-use crate::show::{BytesText, part, rest};
+use crate::show::{part, rest, with_bytes};
 use connection::{role_of, session_at};
 use engine::{Answer, Called, Connection, Outcome, QUEUE_SIZE, Role, SLOT_SIZE};
 use engine_marks::is_filled;
 use script_lines::Call;
 use std::io;
-use text_line::first;
-use text_state::AnswerText;
+use text_line::{Line, first};
 
 // The room of each call: 12 bytes more than a turn needs.
 const ROOM_SIZE: usize = 16 + (SLOT_SIZE as usize);
@@ -46,46 +45,49 @@ fn change_word(change: Change) -> &'static str {
     }
 }
 
-// Prints the answer, and the bytes used, where its words do not include them.
-fn answer(rt: &impl Print, called: &Called) -> io::Result<()> {
-    let answer = called.answer;
-    let used = called.used;
-    print!(rt; ":{}", AnswerText { answer, used })?;
-    let told = matches!(answer, Ok(Answer::Header(_) | Answer::Message { .. }));
-    if !told && 0 < used {
-        print!(rt; " used {used}")?;
+// The line with the answer behind its end, and the bytes used, where its words do not include them.
+fn with_answer(line: Line, called: &Called) -> Line {
+    let line = text_state::answered(line.text(b":"), called.answer, called.used);
+    let told = matches!(
+        called.answer,
+        Ok(Answer::Header(_) | Answer::Message { .. })
+    );
+    if !told && 0 < called.used {
+        return line.item(b" used ", called.used as u64);
     }
-    Ok(())
+    line
 }
 
-// Prints the payload among the bytes received.
-fn payload(rt: &impl Print, bytes: &[u8], start: usize, end: usize) -> io::Result<()> {
+// The line with the payload among the bytes received behind its end.
+fn with_payload(line: Line, bytes: &[u8], start: usize, end: usize) -> Line {
     if start < end {
-        print!(rt; " payload {}", BytesText(part(bytes, start, end)))?;
+        return with_bytes(line.text(b" payload "), part(bytes, start, end));
     }
-    Ok(())
+    line
 }
 
-// Prints the bytes written and the one behind them, and a complaint if any byte behind them is not as lent.
-fn written(rt: &impl Print, wrote: usize, room: &[u8]) -> io::Result<()> {
-    if 0 < wrote {
-        let text = BytesText(first(room, wrote));
-        let next = BytesText(first(rest(room, wrote), 1));
-        print!(rt; " wrote {text} then {next}")?;
+// The bytes written and the one behind them, and a complaint if any byte behind them is not as lent.
+fn written(wrote: usize, room: &[u8]) -> Line {
+    let spoiled = !is_filled(room, wrote, 0xEE);
+    if wrote == 0 {
+        return Line::new().flag(b" spoiled", spoiled);
     }
-    if !is_filled(room, wrote, 0xEE) {
-        print!(rt; " spoiled")?;
-    }
-    Ok(())
+    let line = with_bytes(Line::new().text(b" wrote "), first(room, wrote));
+    with_bytes(line.text(b" then "), first(rest(room, wrote), 1)).flag(b" spoiled", spoiled)
 }
 
-// Prints the end, and the call with its numbers and bytes.
-fn question(rt: &impl Print, c: &Connection, asked: Call, bytes: &[u8]) -> io::Result<()> {
-    print!(rt; "{} {}", end_word(c), CallText(asked))?;
-    if !bytes.is_empty() {
-        print!(rt; " {}", BytesText(bytes))?;
+// The end, and the call with its numbers and bytes.
+fn question(c: &Connection, asked: Call, bytes: &[u8]) -> Line {
+    let end = Line::new().text(end_word(c).as_bytes());
+    let line = with_call(end.text(b" "), asked);
+    if bytes.is_empty() {
+        return line;
     }
-    Ok(())
+    with_bytes(line.text(b" "), bytes)
+}
+
+fn put(rt: &impl Print, line: Line) -> io::Result<()> {
+    rt.write_all(line.as_bytes())
 }
 
 impl Bench {
@@ -102,17 +104,16 @@ impl Bench {
         let before = self.connection;
         let mut queue = self.queue;
         let mut room = [0xEEu8; ROOM_SIZE];
-        question(rt, &before, asked, bytes)?;
+        put(rt, question(&before, asked, bytes))?;
         let called = ask(before, asked, bytes, &mut queue, &mut room);
-        answer(rt, &called)?;
-        payload(rt, bytes, called.start, called.end)?;
-        written(rt, called.wrote, &room)?;
+        let told = with_answer(Line::new(), &called);
+        put(rt, with_payload(told, bytes, called.start, called.end))?;
         let what = change_word(compared(&before, &called.connection));
         let same_queue = check::same(&self.queue, &queue);
-        println!(rt;
-            ", {what}{}",
-            if same_queue { "" } else { ", queue changed" }
-        )?;
+        let told = written(called.wrote, &room)
+            .text(b", ")
+            .text(what.as_bytes());
+        put(rt, told.flag(b", queue changed", !same_queue).text(b"\n"))?;
         self.connection = called.connection;
         self.queue = queue;
         Ok(())
@@ -123,14 +124,17 @@ impl Bench {
         let size = SLOT_SIZE as usize;
         let start = 5 * size;
         let end = start + size;
-        let front = BytesText(part(&self.queue, start - 1, start + 4));
-        let back = BytesText(part(&self.queue, end - 1, end + 1));
-        println!(rt; "slot 5: {front} .. {back}")
+        let name = Line::new().text(b"slot 5: ");
+        let front = with_bytes(name, part(&self.queue, start - 1, start + 4));
+        let both = with_bytes(front.text(b" .. "), part(&self.queue, end - 1, end + 1));
+        put(rt, both.text(b"\n"))
     }
 
     // Prints the fate of a session.
     pub(crate) fn fate(&self, rt: &impl Print, n: u8) -> io::Result<()> {
         let session = session_at(self.connection, n);
-        println!(rt; "fate of {n}: {}", fate_words(session.outcome))
+        let name = Line::new().item(b"fate of ", n as u64).text(b": ");
+        let fate = fate_words(session.outcome);
+        put(rt, name.text(fate.as_bytes()).text(b"\n"))
     }
 }

@@ -1,19 +1,17 @@
 // Bytes as text, and parts of bytes.
-use std::fmt;
-use text_line::{Hex, first};
+use text_line::{Line, first};
 
-/// Bytes as two hexadecimal digits each; of more than 16 bytes the first eight and the count.
-#[derive(Clone, Copy)]
-pub(crate) struct BytesText<'a>(pub(crate) &'a [u8]);
-
-impl fmt::Display for BytesText<'_> {
-    fn fmt<W: fmt::Write>(&self, f: &mut fmt::Formatter<W>) -> fmt::Result {
-        let count = self.0.len();
-        if count <= 16 {
-            return write!(f, "{}", Hex(self.0));
-        }
-        write!(f, "{}..({count} bytes)", Hex(first(self.0, 8)))
+// The line with bytes behind its end, two hexadecimal digits each; of more than 16 bytes the first eight and the count.
+pub(crate) fn with_bytes(line: Line, bytes: &[u8]) -> Line {
+    let count = bytes.len();
+    let shown = first(bytes, if count <= 16 { 16 } else { 8 });
+    let mut digits = [0u8; 32];
+    let n = script_words::to_hex(shown, &mut digits);
+    let line = line.text(first(&digits, 2 * n));
+    if count <= 16 {
+        return line;
     }
+    line.item(b"..(", count as u64).text(b" bytes)")
 }
 
 // The bytes from a place on.
