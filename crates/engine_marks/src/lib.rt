@@ -11,9 +11,19 @@ pub fn fill(room: &mut [u8], mark: u8)
     room.fill(mark);
 }
 
+// Whether every byte is the mark.
+fn is_all(bytes: &[u8], mark: u8) -> bool
+    ensures { result ≡ all_marks mark bytes.now }
+{
+    bytes.iter().all(|b| *b == mark)
+}
+
 // Whether every byte from a place on is the mark.
 pub fn is_filled(room: &[u8], from: usize, mark: u8) -> bool
     ensures { result ≡ all_marks mark (drop from room.now) }
 {
-    room.iter().skip(from).all(|b| *b == mark)
+    match room.get(from..) {
+        Some(rest) => is_all(rest, mark),
+        None => true,
+    }
 }

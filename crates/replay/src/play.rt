@@ -65,8 +65,9 @@ impl Play {
 
     // Makes the call in a room of n bytes, and prints its line.
     fn call(&mut self, rt: &impl Print, asked: Call, line: &[u8], n: usize) -> io::Result<()> {
-        self.room.resize(n, MARK)?;
+        self.room.truncate(n);
         engine_marks::fill(&mut self.room, MARK);
+        self.room.resize(n, MARK)?;
         let called = self.answer(asked, line);
         let spoiled = !engine_marks::is_filled(&self.room, called.wrote, MARK);
         show::called(rt, line, called, &self.room, spoiled)?;
