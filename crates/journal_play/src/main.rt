@@ -66,7 +66,9 @@ fn main(rt: HostRuntime) -> io::Result<()> {
         Err(FillError::TooLong) => usage(&rt, b""),
         Err(FillError::NotPresent) => {
             let alloc = rt.alloc();
-            play_all(&rt, alloc, &mut BufReader::new(alloc, rt.stdin())?)
+            // Nothing is read again once the input has ended, though a terminal or a growing file may have more by then.
+            let stdin = rt.stdin().chain(io::empty());
+            play_all(&rt, alloc, &mut BufReader::new(alloc, stdin)?)
         }
     }
 }
