@@ -42,7 +42,7 @@ fn step(rt: &HostRuntime, end: &mut End, input: &mut Input) -> io::Result<()> {
 }
 
 fn run(rt: &HostRuntime, role: Role) -> io::Result<()> {
-    let mut input = Input::new(rt.alloc());
+    let mut input = Input::new();
     let mut end = End::new(role);
     end.start(rt)?;
     // Kept: an input may have no end, so the loop counts its turns up to a number that no run uses up.
