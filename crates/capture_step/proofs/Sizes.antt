@@ -59,3 +59,9 @@ same_failure (read.Violated f) = refl
 pub stays : (place : ℕ) (f : Failure) → place_after place (next_as (Err f)) ≡ place
 stays place (failure.Refused r) = refl
 stays place (failure.Violated f) = refl
+
+-- a failure and its place are what is at the place
+pub failed_step : (from : Role) (s : List ℕ) (place : ℕ) (f : Failure) → (next_as (Err f), 0) ≡ with_size (message_at from s place)
+    → (next_as (Err f), place) ≡ step_at from s place
+failed_step from s place f e =
+    ap (λ (k : ℕ). (next_as (Err f), k)) (sym (stays place f)) ∙ stepped from s place (ap (λ (p : Result Message × ℕ). p.0) e)

@@ -22,6 +22,7 @@ fn sized_at(capture: &[u8], from: Role, place: usize) -> Result<Sized, Failure>
 }
 
 // What a sender's capture has at a place, and the place to read on from.
+#[tactic(auto, using(crate::proofs::Sizes::failed_step))]
 pub fn next_at(capture: &[u8], from: Role, place: usize) -> Step
     ensures { step_as result ≡ step_at from capture.now place }
 {

@@ -1,10 +1,8 @@
 -- `next_at` meets its contract, by the place after what was read.
-use Rattle.std.proofs.Common.{ℕ, ◌≤◌, ◌<◌, ◌^◌, Err, sym, ap, ◌∙◌, rules, arith}
+use Rattle.std.proofs.Common.{ℕ, ◌≤◌, ◌<◌, ◌^◌, ap, rules, arith}
 use Rattle.laws.specs.Result.{Result}
 use Rattle.wire.specs.declared.Message.{Message}
-use Rattle.capture_rules.specs.Place.{next_as}
-use Rattle.capture_rules.proofs.Steps.{stepped}
-use Rattle.capture_step.proofs.Sizes.{ends_within, sized_step, not_past, stays}
+use Rattle.capture_step.proofs.Sizes.{ends_within, sized_step, not_past}
 use Rattle.capture_step.proofs.next_at.Goals as goal
 
 below : {m n : ℕ} → m ≤ n → n < 2 ^ 64 → m < 2 ^ 64
@@ -18,9 +16,3 @@ overflow_add-result c =
 
 pub returns-in-Ok : goal.returns-in-Ok
 returns-in-Ok c = sized_step _ _ _ c.in-Ok.ensures
-
-pub returns-in-Err : goal.returns-in-Err
-returns-in-Err c =
-    let a = c.args in
-    ap (λ (k : ℕ). (next_as (Err c.in-Err.failure), k)) (sym (stays a.place c.in-Err.failure))
-    ∙ stepped _ _ _ (ap (λ (p : Result Message × ℕ). p.0) c.in-Err.ensures)
