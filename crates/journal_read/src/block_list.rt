@@ -5,7 +5,7 @@ use arrayvec::ArrayVec;
 use std::marker::Model;
 
 /// At most 128 items, in order: a region has no more blocks. They lie in the value itself, and a copy of it is the same list.
-#[derive(Clone, Copy)]
+#[derive(Clone, Copy, Debug, PartialEq, Eq)]
 pub struct BlockList<T> {
     cells: [T; 128],
     count: usize,
