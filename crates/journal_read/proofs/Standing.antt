@@ -1,5 +1,5 @@
 -- The entries of a region are what stands in the blocks before the first bad one.
-use mathlib.Core.Path.{◌≡◌, sym, ap, ◌∙◌}
+use mathlib.Core.Path.{◌≡◌, refl, sym, ap, ◌∙◌}
 use mathlib.Core.Bool.{Bool, true, false}
 use mathlib.Core.List.{List, [], ◌∷◌}
 use Prim.Native.Nat.{ℕ, zero, suc, ◌+◌, ◌-◌, ◌*◌, ◌≤◌, ◌<◌}
@@ -15,6 +15,11 @@ use Rattle.journal_rules.proofs.Regions.{sized_bounds, first_bad_lem}
 unfoldable pub entries_in : ℕ → ℕ → List ℕ → List JournalEntry
 entries_in zero k r = []
 entries_in (suc n) k r = entry_in (block_at r k) ∷ entries_in n (suc k) r
+
+pub count_in_lem : (n k : ℕ) (r : List ℕ) → length (entries_in n k r) ≡ n
+unfolding entries_in
+count_in_lem zero k r = refl
+count_in_lem (suc n) k r = ap suc (count_in_lem n (suc k) r)
 
 not_before : (n k : ℕ) (r : List ℕ) → k ≤ first_bad_from n k r
 unfolding first_bad_from pick
