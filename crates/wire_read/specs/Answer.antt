@@ -9,11 +9,17 @@ use Rattle.refusal.specs.declared.ReadError.{ReadError}
 use Rattle.wire.specs.declared.Message.{Message}
 use Rattle.wire.specs.Message.{body_length}
 use Rattle.wire_read.specs.declared.Sized.{Sized}
+use Rattle.wire_read.specs.declared.Parsed.{Parsed}
 use Rattle.wire_read.specs.declared.headers.Header.{Header}
 
 abbrev pub parsed_as : prelude.Result Message Fault → Result Message
 parsed_as (Ok m) = ok m
 parsed_as (Err f) = violation (fault_as f)
+
+-- what the header of a message means, without how many bytes follow it
+abbrev pub header_as : prelude.Result Parsed Fault → Result Message
+header_as (Ok p) = ok p.message
+header_as (Err f) = violation (fault_as f)
 
 abbrev pub read_as : prelude.Result Message ReadError → Result Message
 read_as r = or_unread (λ m. m) r

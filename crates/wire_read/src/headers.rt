@@ -6,10 +6,11 @@ ghost use Rattle.laws.specs.Result.{ok, fault, violation as result_violation};
 ghost use Rattle.refusal.specs.Number.{violation_number, fault_as};
 ghost use Rattle.wire.specs.declared.Kind.TheVariants.{IncrementRation, Abort, Data};
 ghost use Rattle.wire.specs.FirstByte.{kind_of};
-ghost use Rattle.wire.specs.Message.{flags_allowed, parse_header};
-ghost use Rattle.wire_read.specs.Answer.{parsed_as, header_bytes};
+ghost use Rattle.wire.specs.Message.{body_length, flags_allowed, parse_header};
+ghost use Rattle.wire_read.specs.Answer.{header_as, header_bytes};
 ghost use Rattle.wire_read.specs.Order.{in_order};
 
+use crate::Parsed;
 use refusal::{Fault, Violation};
 use wire::{Message, Role};
 use wire_fields::{flags_allowed, is_client, is_server};
@@ -22,22 +23,22 @@ fn broken(violation: Violation, offset: u16) -> Fault
 }
 
 // A message, if its sender may send it.
-fn if_sent(allowed: bool, message: Message) -> Result<Message, Fault>
-    ensures { parsed_as result ≡ pick allowed (ok message) (result_violation (fault 23 0)) }
+fn if_sent(allowed: bool, parsed: Parsed) -> Result<Parsed, Fault>
+    ensures { header_as result ≡ pick allowed (ok parsed.message) (result_violation (fault 23 0)) }
 {
     if allowed {
-        Ok(message)
+        Ok(parsed)
     } else {
         Err(broken(Violation::WrongSender, 0))
     }
 }
 
 // A message, if its sender may set its flags.
-fn if_flagged(from: Role, message: Message) -> Result<Message, Fault>
-    ensures { parsed_as result ≡ pick (flags_allowed from message) (ok message) (result_violation (fault 24 0)) }
+fn if_flagged(from: Role, parsed: Parsed) -> Result<Parsed, Fault>
+    ensures { header_as result ≡ pick (flags_allowed from parsed.message) (ok parsed.message) (result_violation (fault 24 0)) }
 {
-    if flags_allowed(from, message) {
-        Ok(message)
+    if flags_allowed(from, parsed.message) {
+        Ok(parsed)
     } else {
         Err(broken(Violation::WrongFlags, 0))
     }
@@ -72,18 +73,20 @@ impl Header {
     }
 
     // A message of the connection as a whole: its byte 1 is 0.
-    fn whole(self, allowed: bool, message: Message) -> Result<Message, Fault>
-        ensures { parsed_as result ≡ in_order (eqb self.second 0) 1 allowed true message }
+    fn whole(self, allowed: bool, message: Message, body: u16) -> Result<Parsed, Fault>
+        requires { body ≡ body_length message }
+        ensures { header_as result ≡ in_order (eqb self.second 0) 1 allowed true message }
     {
         if self.second != 0 {
             return Err(broken(Violation::ReservedBit, 1));
         }
-        if_sent(allowed, message)
+        if_sent(allowed, Parsed { message, body })
     }
 
     // A message that has a session and nothing else: its bytes 2 and 3 are 0.
-    fn bare(self, allowed: bool, message: Message) -> Result<Message, Fault>
-        ensures { parsed_as result ≡ in_order (ltb self.second 128 && eqb self.third 0 && eqb self.fourth 0) (pick (ltb self.second 128) (pick (eqb self.third 0) 3 2) 1) allowed true message }
+    fn bare(self, allowed: bool, message: Message) -> Result<Parsed, Fault>
+        requires { 0 ≡ body_length message }
+        ensures { header_as result ≡ in_order (ltb self.second 128 && eqb self.third 0 && eqb self.fourth 0) (pick (ltb self.second 128) (pick (eqb self.third 0) 3 2) 1) allowed true message }
     {
         self.session()?;
         if self.third != 0 {
@@ -92,67 +95,72 @@ impl Header {
         if self.fourth != 0 {
             return Err(broken(Violation::ReservedBit, 3));
         }
-        if_sent(allowed, message)
+        if_sent(allowed, Parsed { message, body: 0 })
     }
 
     // Data, whose flags are asked behind its reserved bit.
-    fn data(self, from: Role) -> Result<Message, Fault>
+    fn data(self, from: Role) -> Result<Parsed, Fault>
         requires { kind_of self.first ≡ Some Data }
-        ensures { parsed_as result ≡ parse_header from (header_bytes self) }
+        ensures { header_as result ≡ parse_header from (header_bytes self) }
     {
         let session = self.session()?;
-        let data = Message::Data {
+        let body = self.number();
+        let message = Message::Data {
             open: self.first / 16 % 2 == 1,
             close: self.first / 8 % 2 == 1,
             eof: self.first / 4 % 2 == 1,
             ack_required: self.first / 2 % 2 == 1,
             session,
-            length: self.number(),
+            length: body,
         };
+        let data = Parsed { message, body };
         if_flagged(from, data)
     }
 
     // An IncrementRation: nothing follows it.
-    fn increment_ration(self, from: Role) -> Result<Message, Fault>
+    fn increment_ration(self, from: Role) -> Result<Parsed, Fault>
         requires { kind_of self.first ≡ Some IncrementRation }
-        ensures { parsed_as result ≡ parse_header from (header_bytes self) }
+        ensures { header_as result ≡ parse_header from (header_bytes self) }
     {
-        Ok(Message::IncrementRation {
+        let message = Message::IncrementRation {
             session: self.session()?,
             shift: self.first / 2 % 8,
             increment: self.number(),
-        })
+        };
+        Ok(Parsed { message, body: 0 })
     }
 
     // An Abort: partial is asked behind its reserved bit.
-    fn abort(self, from: Role) -> Result<Message, Fault>
+    fn abort(self, from: Role) -> Result<Parsed, Fault>
         requires { kind_of self.first ≡ Some Abort }
-        ensures { parsed_as result ≡ parse_header from (header_bytes self) }
+        ensures { header_as result ≡ parse_header from (header_bytes self) }
     {
         let session = self.session()?;
-        let abort = Message::Abort {
+        let body = self.number();
+        let message = Message::Abort {
             partial: self.first / 2 % 2 == 1,
             session,
-            length: self.number(),
+            length: body,
         };
+        let abort = Parsed { message, body };
         if_flagged(from, abort)
     }
 
     // A message whose first byte has no item, if it names a type.
-    fn of_one_byte(self, from: Role) -> Result<Message, Fault>
+    fn of_one_byte(self, from: Role) -> Result<Parsed, Fault>
         requires { (self.first / 16 ≡ 1 → ⊥) × (self.first / 4 ≡ 8 → ⊥) × (self.first / 32 ≡ 4 → ⊥) }
-        ensures { parsed_as result ≡ parse_header from (header_bytes self) }
+        ensures { header_as result ≡ parse_header from (header_bytes self) }
     {
         let session = self.second;
         let n = self.number();
         let server = is_server(from);
         let client = is_client(from);
         match self.first {
-            0x00 => self.whole(true, Message::NoOperation { length: n }),
-            0x02 => self.whole(server, Message::Shutdown { length: n }),
-            0x04 => self.whole(true, Message::Ping { cookie: n }),
-            0x06 => self.whole(true, Message::PingAck { cookie: n }),
-            0x08 => self.whole(true, Message::Error { length: n }),
+            0x00 => self.whole(true, Message::NoOperation { length: n }, n),
+            0x02 => self.whole(server, Message::Shutdown { length: n }, n),
+            0x04 => self.whole(true, Message::Ping { cookie: n }, 0),
+            0x06 => self.whole(true, Message::PingAck { cookie: n }, 0),
+            0x08 => self.whole(true, Message::Error { length: n }, n),
             0x30 => self.bare(server, Message::Close { session }),
             0x40 => self.bare(client, Message::Acknowledgment { session }),
             _ => Err(broken(Violation::UnknownType, 0)),
@@ -160,8 +168,8 @@ impl Header {
     }
 
     // What the header of a message from a sender says.
-    pub fn parse(self, from: Role) -> Result<Message, Fault>
-        ensures { parsed_as result ≡ parse_header from (header_bytes self) }
+    pub fn parse(self, from: Role) -> Result<Parsed, Fault>
+        ensures { header_as result ≡ parse_header from (header_bytes self) }
     {
         if self.first % 2 == 1 {
             Err(broken(Violation::UnknownType, 0))

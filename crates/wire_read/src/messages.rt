@@ -4,11 +4,10 @@ ghost use Rattle.laws.specs.Result.{ok};
 ghost use Rattle.wire.specs.Message.{parse_header, read_message, with_body};
 ghost use Rattle.wire_read.specs.Answer.{parsed_as, read_as, sized_as, with_size};
 
-use crate::Sized;
 use crate::headers::Header;
+use crate::{Parsed, Sized};
 use refusal::{Fault, ReadError};
 use wire::{Message, Role};
-use wire_fields::body_length;
 
 // What the four header bytes of a message from a sender say.
 pub fn parse_header(
@@ -26,16 +25,20 @@ pub fn parse_header(
         third,
         fourth,
     };
-    header.parse(from)
+    let parsed = header.parse(from)?;
+    Ok(parsed.message)
 }
 
 // A message with its size, if so many bytes are there from its first one on.
-fn complete(have: usize, message: Message) -> Result<Sized, ReadError>
-    ensures { sized_as result ≡ with_size (with_body have (ok message)) }
+fn complete(have: usize, parsed: Parsed) -> Result<Sized, ReadError>
+    ensures { sized_as result ≡ with_size (with_body have (ok parsed.message)) }
 {
-    let size = 4 + body_length(message) as usize;
+    let size = 4 + parsed.body as usize;
     if size <= have {
-        Ok(Sized { message, size })
+        Ok(Sized {
+            message: parsed.message,
+            size,
+        })
     } else {
         Err(ReadError::Incomplete)
     }
@@ -48,8 +51,14 @@ pub fn read_sized(from: Role, input: &[u8]) -> Result<Sized, ReadError>
     let Some([first, second, third, fourth]) = input.first_chunk::<4>() else {
         return Err(ReadError::Incomplete);
     };
-    let message = parse_header(from, *first, *second, *third, *fourth)?;
-    complete(input.len(), message)
+    let header = Header {
+        first: *first,
+        second: *second,
+        third: *third,
+        fourth: *fourth,
+    };
+    let parsed = header.parse(from)?;
+    complete(input.len(), parsed)
 }
 
 // The message from a sender at the front of the input.

@@ -9,10 +9,10 @@ use Rattle.wire_read.proofs.messages.read_sized.Goals as goal
 pub returns-in_default : goal.returns-in_default
 returns-in_default c = ap with_size (message_short _ _ c.in_default.ensures.cases)
 
-pub returns-in_err-message : goal.returns-in_err-message
-returns-in_err-message c =
-    let told : c.from_residual.result ≡ Err (Violated c.in_err-message.field-0.0) = search rules in
-    rw told (ap with_size (long c.args.from c.in-Some.ensures.cases c.in_err-message.ensures))
+pub returns-in_err-parsed : goal.returns-in_err-parsed
+returns-in_err-parsed c =
+    let told : c.from_residual.result ≡ Err (Violated c.in_err-parsed.field-0.0) = search rules in
+    rw told (ap with_size (long c.args.from c.in-Some.ensures.cases c.in_err-parsed.ensures))
 
 pub returns : goal.returns
-returns c = c.complete.ensures ∙ ap with_size (long c.args.from c.in-Some.ensures.cases c.in_ok-message.ensures)
+returns c = c.complete.ensures ∙ ap with_size (long c.args.from c.in-Some.ensures.cases c.in_ok-parsed.ensures)

@@ -18,4 +18,4 @@ pub returns : goal.returns
 returns c =
     let a = c.args in
     c.if_flagged.ensures ∙ arm_flags a.from a.self.first a.self.second a.self.third a.self.fourth (omega arith) (omega arith) (omega arith) (omega arith) kind.Abort c.requires _
-    (λ t. abort_items a.self.first a.self.second a.self.third a.self.fourth (omega arith) (omega arith) (omega arith) (omega arith) t _ _ c.in_ok-session.ensures.0 c.number.ensures) c.in_ok-session.ensures.1 refl
+    (λ t. abort_items a.self.first a.self.second a.self.third a.self.fourth (omega arith) (omega arith) (omega arith) (omega arith) t _ _ c.in_ok-session.ensures.0 c.number-body.ensures) c.in_ok-session.ensures.1 refl
