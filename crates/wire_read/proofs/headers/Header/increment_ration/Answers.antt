@@ -19,3 +19,6 @@ returns c =
     let a = c.args in
     arm_taken a.from a.self.first a.self.second a.self.third a.self.fourth (omega arith) (omega arith) (omega arith) (omega arith) kind.IncrementRation c.requires _
     (λ t. increment_items a.self.first a.self.second a.self.third a.self.fourth (omega arith) (omega arith) (omega arith) (omega arith) t _ _ c.in_ok-session.ensures.0 c.number.ensures) c.in_ok-session.ensures.1 refl refl
+
+pub invariant_of-result : goal.invariant_of-result
+invariant_of-result c = record { right = refl }
