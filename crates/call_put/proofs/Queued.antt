@@ -70,3 +70,9 @@ unfolding put_call
 put_is c n bytes queue =
     ap (λ (q : List ℕ). (given c [] (decided (put_rule c n (length bytes) (length queue))), q))
     (same_taken (put_rule c n (length bytes) (length queue)) _ _ queue (put_takes c n bytes queue))
+
+-- a put that is stopped leaves the queue as it is
+pub put_stopped : (c : Connection) (n : ℕ) (bytes queue : List ℕ) {res : Given} {k : ℕ} → res ≡ given c [] (refuse k)
+    → refuse k ≡ decided (put_rule c n (length bytes) (length queue)) → (res, queue) ≡ put_call c n bytes queue
+put_stopped c n bytes queue g e =
+    rw g (ap (putting c n (at c n).waiting bytes queue) e) ∙ put_is c n bytes queue
