@@ -24,17 +24,6 @@ fn answering(role: Role, own: u16) -> Reply
     }
 }
 
-// The decision where a reader gives nothing: more bytes are to come, or those that came break the protocol.
-fn unread(c: Connection, error: ReadError) -> Judged
-    ensures header { (role : Role) → verdict_as result ≡ verdict c (header_taken c role (header_read_as (Err error))) }
-    ensures message { verdict_as result ≡ verdict c (message_taken c (read_as (Err error))) }
-{
-    match error {
-        ReadError::Incomplete => incomplete(c),
-        ReadError::Violated(fault) => violated(c, fault),
-    }
-}
-
 // The decision on a header that was read; after a good one the headers are exchanged.
 fn take_header(c: Connection, role: Role, header: Result<u16, ReadError>) -> Judged
     ensures { verdict_as result ≡ verdict c (header_taken c role (header_read_as header)) }
@@ -45,7 +34,8 @@ fn take_header(c: Connection, role: Role, header: Result<u16, ReadError>) -> Jud
             answer: Ok(Answer::Header(far)),
             reply: answering(role, c.own),
         },
-        Err(why) => unread(c, why),
+        Err(ReadError::Incomplete) => incomplete(c),
+        Err(ReadError::Violated(why)) => violated(c, why),
     }
 }
 
@@ -55,7 +45,8 @@ fn take_message(c: Connection, message: Result<Message, ReadError>) -> Judged
 {
     match message {
         Ok(m) => judge(c, m),
-        Err(error) => unread(c, error),
+        Err(ReadError::Incomplete) => incomplete(c),
+        Err(ReadError::Violated(fault)) => violated(c, fault),
     }
 }
 

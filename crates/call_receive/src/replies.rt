@@ -39,11 +39,13 @@ pub(crate) fn replied(judged: Judged, room: &mut [u8]) -> Called
     requires { 12 ≤ length room.old }
     ensures { (called_as result, room.new) ≡ replied_replied (verdict_as judged) room.old }
 {
+    let connection = judged.connection;
+    let answer = judged.answer;
     let wrote = write_reply(judged.reply, room);
-    let extent = extent_of(judged.answer);
+    let extent = extent_of(answer);
     Called {
-        connection: judged.connection,
-        answer: judged.answer,
+        connection,
+        answer,
         used: extent.used,
         wrote,
         start: extent.start,
