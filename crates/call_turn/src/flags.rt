@@ -15,5 +15,9 @@ fn flag_of(x: Session) -> u8
 pub(crate) fn ready_flags(table: [Session; 128]) -> [u8; 128]
     ensures { result ≡ map flag_of table }
 {
-    table.map(|x| flag_of(x))
+    let mut flags = [0u8; 128];
+    for i in 0..128 {
+        flags[i] = flag_of(table[i]);
+    }
+    flags
 }
