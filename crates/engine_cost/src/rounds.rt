@@ -53,42 +53,37 @@ fn after(called: Called, taken: u64, n: u8, waiting: u16) -> Round {
     }
 }
 
-// Goes round the eight sessions, and tells how many calls were taken.
-fn go_round<F: FnMut(Round, u8) -> Round>(waiting: u16, mut round: F) -> u64
+// Goes round the eight sessions, and tells how many calls were taken. The round is lent, so that its state isn't copied for it.
+fn go_round<F: FnMut(&mut Round, u8)>(waiting: u16, mut round: F) -> u64
     requires { F.IsAlwaysCallable round }
 {
     let mut r = begun(waiting);
     for i in 0..ROUNDS {
-        r = round(r, (i % 8) as u8);
+        round(&mut r, (i % 8) as u8);
     }
     r.taken
 }
 
 // Sets a session in each round, as the other loops do in addition to their call.
 pub(crate) fn tables() -> u64 {
-    go_round(
-        0,
-        |r, n| Round {
-            connection: with_session(r.connection, n, session(16)),
-            taken: r.taken.wrapping_add(1),
-        },
-    )
+    go_round(0, |r, n| {
+        r.connection = with_session(r.connection, n, session(16));
+        r.taken = r.taken.wrapping_add(1);
+    })
 }
 
 pub(crate) fn checks() -> u64 {
     go_round(0, |r, n| {
-        let connection = with_session(r.connection, n, session(16));
-        Round {
-            connection,
-            taken: r.taken.wrapping_add(u64::from(well_formed(connection))),
-        }
+        r.connection = with_session(r.connection, n, session(16));
+        r.taken = r.taken.wrapping_add(u64::from(well_formed(r.connection)));
     })
 }
 
 // Each turn sends the 16 bytes of the session whose turn it is, and they wait again for the next time.
 pub(crate) fn turns(queue: &mut [u8; QUEUE_SIZE], room: &mut [u8; ROOM_SIZE]) -> u64 {
     go_round(16, |r, n| {
-        after(engine::turn(r.connection, queue, room), r.taken, n, 16)
+        let called = engine::turn(r.connection, queue, room);
+        *r = after(called, r.taken, n, 16);
     })
 }
 
@@ -96,7 +91,7 @@ pub(crate) fn turns(queue: &mut [u8; QUEUE_SIZE], room: &mut [u8; ROOM_SIZE]) ->
 pub(crate) fn puts(queue: &mut [u8; QUEUE_SIZE]) -> u64 {
     go_round(0, |r, n| {
         let called = engine::put(r.connection, n, b"0123456789abcdef", queue);
-        after(called, r.taken, n, 0)
+        *r = after(called, r.taken, n, 0);
     })
 }
 
@@ -104,6 +99,6 @@ pub(crate) fn puts(queue: &mut [u8; QUEUE_SIZE]) -> u64 {
 pub(crate) fn receipts(room: &mut [u8; ROOM_SIZE]) -> u64 {
     go_round(0, |r, n| {
         let called = engine::receive(r.connection, b"\x80\x05\x00\x100123456789abcdef", room);
-        after(called, r.taken, n, 0)
+        *r = after(called, r.taken, n, 0);
     })
 }
