@@ -5,7 +5,7 @@ use arrayvec::ArrayVec;
 use std::marker::Model;
 
 /// At most 128 items, in order: a region has no more blocks. They lie in the value itself, and a copy of it is the same list.
-#[derive(Clone, Copy, Debug, PartialEq, Eq)]
+#[derive(Clone, Copy, Debug)]
 pub struct BlockList<T> {
     cells: [T; 128],
     count: usize,
@@ -48,6 +48,27 @@ impl<T> BlockList<T> {
     {
         &self.cells[..self.len()]
     }
+}
+
+// Lists are equal if their items are, in order; what lies in the unused room does not count.
+impl<T: PartialEq> PartialEq for BlockList<T> {
+    ghost use Rattle.std.specs.Cmp.{on_per};
+    ghost use Rattle.std.specs.Cmp.Lexicographic.{pointwise, lists_per};
+
+    ghost eq = { λ v w. pointwise T.eq v.items w.items };
+
+    ghost laws = { on_per (λ v. v.items) (lists_per T.laws) };
+
+    fn eq(&self, other: &Self) -> bool {
+        self.as_slice() == other.as_slice()
+    }
+}
+
+impl<T: Eq> Eq for BlockList<T> {
+    ghost use Rattle.std.specs.Cmp.{on_equiv};
+    ghost use Rattle.std.specs.Cmp.Lexicographic.{lists_equiv};
+
+    ghost laws = { on_equiv (λ v. v.items) (lists_equiv T.Eq.laws) };
 }
 
 impl<T: Copy + Default> BlockList<T> {
