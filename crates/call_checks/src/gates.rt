@@ -65,6 +65,5 @@ pub fn to_session(c: Connection, n: u8) -> Result<(), Refusal>
 pub(crate) fn to_write_session(c: Connection, n: u8, room: usize) -> Result<(), Refusal>
     ensures { gate_as result ≡ to_gate (up_and_running c (room_for 4 room (number_in n (take tt)))) }
 {
-    to_write(c, room)?;
-    refuse_if(128 <= n, Refusal::NoSuchSession)
+    to_write(c, room).and(refuse_if(128 <= n, Refusal::NoSuchSession))
 }

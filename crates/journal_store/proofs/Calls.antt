@@ -5,6 +5,7 @@ use mathlib.Core.List.{List}
 use Prim.Native.Nat.{ℕ, suc, ◌+◌, ◌*◌, ◌≤◌, ◌<◌, min}
 use native.Mathlib.Omega.{arith}
 use native.Mathlib.Numerals.{add-one}
+use borrow.Author.Rules.{rules}
 use borrow.Author.Tests.{eq-eqb, ne_eqb, eqb-true, eqb-false}
 use lib.Dec.{eqb}
 use lib.ListN.{length, replicate}
@@ -15,13 +16,22 @@ use Rattle.journal_rules.specs.Block.{JournalEntry, block_of}
 use Rattle.journal_rules.specs.Region.{sized, blocks, full, first_bad, store_refusal}
 use Rattle.journal_rules.specs.Calls.{Reached, none_bad, reached, store_call, repair_call}
 use Rattle.journal_rules.proofs.Regions.{sized_bounds, first_bad_lem, refused_8, refused_3, refused_12, refused_16, refused_0, stored_none, stored_some, repaired_none, repaired_some}
-use Rattle.std.specs.Prelude.{Ok}
+use Rattle.std.specs.Prelude.{Result, Ok}
+use Rattle.std.proofs.lemmas.List.{take_all}
+use Rattle.refusal.specs.declared.Refusal.{Refusal}
 use Rattle.journal_region.specs.declared.Search.{Search}
 use Rattle.journal_region.specs.declared.Search.TheVariants.{BadAt, AllGood}
 use Rattle.journal_region.specs.Search.{searched}
 use Rattle.journal_region.proofs.Found.{TellsBad, tells_good}
 
 -- ---- what a search told
+
+-- what a search told of a part that is the whole region, it told of the region
+pub told : {f : Result Search Refusal} {part : List ℕ} (r : List ℕ) → f ≡ searched part → part ≡ r → f ≡ searched r
+told r e h = e ∙ ap searched h
+
+-- what shows that a part is the whole
+pub ruleset whole = (rules, arith, take_all)
 
 -- no block is bad
 pub none_left : (r : List ℕ) (s : Search) → Ok s ≡ searched r → ((p : ℕ) → s ≡ BadAt p → ⊥) → (sized r ≡ true) × (full r ≡ true)

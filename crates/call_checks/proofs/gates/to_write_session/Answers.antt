@@ -1,18 +1,12 @@
 -- `to_write_session` meets its contract: one check more than `to_write`.
 use Rattle.std.specs.Prelude.{leb}
-use Rattle.std.proofs.lemmas.Result.{err_from_is_err_and}
 use Rattle.protocol.specs.Plan.{check, take}
 use Rattle.protocol.specs.Call.{up_and_running, room_for}
-use Rattle.call_checks.proofs.Checks.{go_on, stop_here}
+use Rattle.call_checks.proofs.Checks.{one_more}
 use Rattle.call_checks.proofs.gates.to_write_session.Goals as goal
-
-pub returns-in_err-to_write : goal.returns-in_err-to_write
-returns-in_err-to_write c =
-    let a = c.args in
-    let p = err_from_is_err_and c.from_residual.result c.from_residual.ensures.1 in
-    rw (p.1, p.2) (stop_here (up_and_running a.c (room_for 4 a.room (take tt))) (check (leb 128 a.n) 3 (take tt)) c.in_err-to_write.ensures)
 
 pub returns : goal.returns
 returns c =
     let a = c.args in
-    go_on (up_and_running a.c (room_for 4 a.room (take tt))) (check (leb 128 a.n) 3 (take tt)) c.in_ok-to_write.ensures c.refuse_if.ensures
+    one_more (up_and_running a.c (room_for 4 a.room (take tt))) (check (leb 128 a.n) 3 (take tt)) c.to_write.result c.refuse_if.result c.and.ensures
+    c.to_write.ensures c.refuse_if.ensures
