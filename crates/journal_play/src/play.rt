@@ -88,7 +88,7 @@ const BLOCK_SIZE: usize = 512;
 // Prints the bytes of a block, or that there is none.
 fn block(rt: &impl Print, bytes: &[u8]) -> io::Result<()> {
     if bytes.is_empty() {
-        return rt.println("block none");
+        return rt.write_all(b"block none\n");
     }
     let mut line = [b'\n'; 7 + 2 * BLOCK_SIZE];
     line[..6].copy_from_slice(b"block ");
@@ -104,7 +104,7 @@ fn answer(rt: &impl Print, asked: Asked, region: &mut [u8]) -> io::Result<()> {
         Asked::List => rt.println(ListText(journal_read::list(region))),
         Asked::Damage(place, byte) => {
             journal_lines::damage(region, place, byte);
-            rt.println("damage ok")
+            rt.write_all(b"damage ok\n")
         }
         Asked::Block(n) => block(rt, journal_lines::block_named(region, n)),
     }
