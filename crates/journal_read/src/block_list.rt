@@ -72,8 +72,8 @@ impl<T: Eq> Eq for BlockList<T> {
 }
 
 impl<T: Copy + Default> BlockList<T> {
-    // The list of these items.
-    pub(crate) fn of(items: &ArrayVec<T, 128>) -> Self
+    /// The list of these items.
+    pub fn of(items: &ArrayVec<T, 128>) -> Self
         ensures { result.items ≡ items.now.items }
     {
         let mut cells = [T::default(); 128];

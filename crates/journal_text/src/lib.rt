@@ -4,6 +4,9 @@
 ghost use Rattle.std.specs.Prelude.{Some};
 ghost use Rattle.journal_text.specs.Texts.{entry_line, store_text, repair_text, read_text, list_text};
 
+#[cfg(test)]
+mod tests;
+
 use journal_read::{Entries, Entry, Listing};
 use journal_store::Written;
 use refusal::Refusal;
