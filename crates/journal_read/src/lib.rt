@@ -8,6 +8,8 @@ ghost use Rattle.journal_rules.specs.Calls.{read_call, list_call};
 ghost use Rattle.journal_read.specs.Answers.{entry_as, entries_as, listed_as, begins_open};
 
 mod block_list;
+#[cfg(test)]
+mod tests;
 
 use arrayvec::ArrayVec;
 pub use block_list::BlockList;
